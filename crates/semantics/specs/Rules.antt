@@ -1,0 +1,126 @@
+-- What is a rule: the refusals 4 to 7 (document 01, "Rule records" and "Evaluate"). Each test goes over all records before the next begins.
+-- Assumes nothing.
+use Prim.Native.Nat.{ℕ, zero, suc, _+_, _%_}
+use mathlib.Core.Bool.{Bool, true, false, not, _&&_, _||_}
+use mathlib.Core.List.{List, [], _∷_}
+use lib.Dec.{eqb, ltb}
+use lib.ListN.{getD, set, length, replicate}
+use Rattle.notation.specs.Notation.{with, if_then_else_, if_equals_then_else_, if_below_then_else_, unless_then_else_}
+use Rattle.operators.specs.Operators.{operandsOf}
+use Rattle.semantics.specs.declared.Record.{Record}
+use Rattle.semantics.specs.Numbers.{datumRecord, variableRecord, procedureRecord, callRecord, operatorRecord, letRecord, ifRecord, abortRecord, errorRecord, wordDatum, isProcedureCode, inputCount, recordLimit, ruleBytes, ruleSize, badRecord, badTree, badPlace}
+use Rattle.semantics.specs.Records.{recordAt, recordsIn}
+
+-- f of every number below n
+unfoldable pub upTo : ℕ → (ℕ → Bool) → Bool
+upTo zero f = true
+upTo (suc n) f = if upTo n f then f n else false
+
+-- f of every element
+unfoldable pub every : {A : Type 0} → (A → Bool) → List A → Bool
+every f [] = true
+every f (x ∷ xs) = if f x then every f xs else false
+
+-- ---- 4: "rule bytes none, above 32,768 or not a multiple of 8"
+unfoldable pub badRuleSize : ℕ → Bool
+badRuleSize l = eqb l 0 || (ltb ruleBytes l || not (eqb (l % 8) 0))
+
+-- ---- 5: "a kind, op or unused field not as above"
+
+-- how many of p, q and r, in this order, a record of its kind and op uses; 4 where there is no such kind or op
+unfoldable pub usesOf : Record → ℕ
+usesOf x =
+    if x .kind equals datumRecord then (if x .op below wordDatum then 0 else if x .op equals wordDatum then 1 else 4) else
+    if x .kind equals operatorRecord then (if isProcedureCode below x .op then 4 else with (operandsOf (x .op)) λ n. if n equals 0 then 4 else n) else
+    if x .op equals 0 then (
+    if x .kind equals variableRecord then 1 else
+    if x .kind equals procedureRecord then 1 else
+    if x .kind equals callRecord then 2 else
+    if x .kind equals letRecord then 2 else
+    if x .kind equals ifRecord then 3 else
+    if x .kind equals abortRecord then 0 else
+    if x .kind equals errorRecord then 0 else 4) else
+    4
+
+-- "Unused fields are zero": field i, of a record that uses the first u
+unfoldable pub fieldOf : ℕ → ℕ → ℕ → Bool
+fieldOf u i v = if i below u then true else eqb v 0
+
+unfoldable pub shapedOf : Record → Bool
+shapedOf x = with (usesOf x) λ u. if u equals 4 then false else (fieldOf u 0 (x .p) && (fieldOf u 1 (x .q) && fieldOf u 2 (x .r)))
+
+-- ---- 6: "the tree, or a child past the last record"
+
+-- A child, and how many bindings it has more than its parent.
+pub record Part : Type 0 where
+  pub child : ℕ
+  pub more : ℕ
+
+abbrev pub part : ℕ → ℕ → Part
+part c m = record { child = c; more = m }
+
+-- "3 procedure: p is its body"; "6 let: p is evaluated, q is evaluated with one more binding"; "7 if: then q, else r"
+unfoldable pub partsOf : Record → List Part
+partsOf x =
+    if x .kind equals procedureRecord then part (x .p) 1 ∷ [] else
+    if x .kind equals letRecord then part (x .p) 0 ∷ part (x .q) 1 ∷ [] else
+    if x .kind equals ifRecord then part (x .q) 0 ∷ part (x .r) 0 ∷ [] else
+    []
+
+-- "Each child's number is greater than its parent's", here i, and below the count, n
+unfoldable pub insideOf : ℕ → ℕ → Part → Bool
+insideOf i n c = ltb i (c .child) && ltb (c .child) n
+
+-- how often j is among the children
+unfoldable pub timesIn : ℕ → List Part → ℕ
+timesIn j [] = 0
+timesIn j (c ∷ cs) = (if j equals c .child then 1 else 0) + timesIn j cs
+
+-- how often j is a child of the first n records
+unfoldable pub timesBelow : List ℕ → ℕ → ℕ → ℕ
+timesBelow s zero j = 0
+timesBelow s (suc n) j = timesBelow s n j + timesIn j (partsOf (recordAt s n))
+
+-- "each record but 0 is a child once"
+unfoldable pub onceOf : ℕ → ℕ → Bool
+onceOf i times = if i equals 0 then true else eqb times 1
+
+-- record i of n stands in the tree
+unfoldable pub linkedOf : List ℕ → ℕ → ℕ → Bool
+linkedOf s n i = every (insideOf i n) (partsOf (recordAt s i)) && onceOf i (timesBelow s n i)
+
+-- ---- 7: "a place out of scope"
+
+-- "2 variable: p is a place"; "4 call: place p applied to place q"; "5 operator op on places p and q (p only for one operand)"; "7 if: place p tested"
+unfoldable pub placesOf : Record → List ℕ
+placesOf x =
+    if x .kind equals variableRecord then x .p ∷ [] else
+    if x .kind equals callRecord then x .p ∷ x .q ∷ [] else
+    if x .kind equals operatorRecord then (with (operandsOf (x .op)) λ n. if n equals 1 then x .p ∷ [] else x .p ∷ x .q ∷ []) else
+    if x .kind equals ifRecord then x .p ∷ [] else
+    []
+
+-- a record under d bindings tells its children theirs
+unfoldable pub toldOf : ℕ → List Part → List ℕ → List ℕ
+toldOf d [] m = m
+toldOf d (c ∷ cs) m = toldOf d cs (set m (c .child) (d + c .more))
+
+-- the bindings over each record, as the first n records tell; none over record 0
+unfoldable pub bindingsBelow : List ℕ → ℕ → List ℕ
+bindingsBelow s zero = replicate recordLimit 0
+bindingsBelow s (suc n) = with (bindingsBelow s n) λ m. toldOf (getD m n 0) (partsOf (recordAt s n)) m
+
+-- "under d bindings input i is place d + i, for 16 inputs": the places of record i are in scope
+unfoldable pub scopedOf : List ℕ → ℕ → Bool
+scopedOf s i = with (getD (bindingsBelow s i) i 0) λ d. every (λ p. ltb p (d + inputCount)) (placesOf (recordAt s i))
+
+-- ---- the first of 4 to 7 that refuses a rule; 0 where none does
+unfoldable pub testsOf : List ℕ → ℕ → ℕ
+testsOf s n =
+    unless upTo n (λ i. shapedOf (recordAt s i)) then badRecord else
+    unless upTo n (linkedOf s n) then badTree else
+    unless upTo n (scopedOf s) then badPlace else
+    0
+
+unfoldable pub ruleRefusalOf : List ℕ → ℕ
+ruleRefusalOf s = if badRuleSize (length s) then ruleSize else testsOf s (recordsIn s)

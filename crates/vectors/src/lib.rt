@@ -1,0 +1,1 @@
+// Cases of tests/vectors, computed by the definitions. No code.

@@ -1,0 +1,53 @@
+-- Laws of words, for every width k: what the operators give is a word, and how they wrap. Assumes nothing.
+use mathlib.Core.Path.{_≡_, refl, ap, sym, subst⁻¹, _∙_}
+use Prim.Native.Nat.{ℕ, zero, suc, _+_, _-_, _*_, _/_, _%_, _^_, _<_, _≤_}
+use native.Mathlib.Nat.{add-comm, mul-comm, le-of-lt, lt-of-le-of-lt, mul-le-mul-left, mul-lt-mul-of-pos-right, mod-lt, mod-self, mod-eq-of-lt, mod-add-mod, add-mod-right}
+use native.Mathlib.Omega.{arith}
+use lib.Bits.{and-lt, or-lt, xor-lt}
+use lib.Count.{leading-of-zero}
+use lib.Pow.{pow-pos, pow-add, pow-lt, shr-le}
+use Rattle.words.specs.Words.{sumOf, differenceOf, productOf, andOf, orOf, xorOf, leftOf, rightOf, zerosOf}
+
+module _ (k : ℕ) where
+  -- what is taken modulo 2 ^ k is a word
+  pub wrapped : (n : ℕ) → n % 2 ^ k < 2 ^ k
+  wrapped n = mod-lt n (pow-pos k)
+
+  -- The whole product of two words has at most twice the width.
+  pub product-fits : {a b : ℕ} → a < 2 ^ k → b < 2 ^ k → a * b < 2 ^ (k + k)
+  product-fits {a} {b} ha hb =
+      subst⁻¹ (λ (n : ℕ). a * b < n) (pow-add 2 k k)
+      (lt-of-le-of-lt (mul-le-mul-left a (le-of-lt hb)) (mul-lt-mul-of-pos-right ha (pow-pos k)))
+
+  pub right-word : {a : ℕ} (b : ℕ) → a < 2 ^ k → rightOf k a b < 2 ^ k
+  right-word {a} b h = lt-of-le-of-lt (shr-le a (b % k)) h
+
+  pub sum-comm : (a b : ℕ) → sumOf k a b ≡ sumOf k b a
+  sum-comm a b = ap (λ (n : ℕ). n % 2 ^ k) (add-comm a b)
+
+  pub product-comm : (a b : ℕ) → productOf k a b ≡ productOf k b a
+  product-comm a b = ap (λ (n : ℕ). n % 2 ^ k) (mul-comm a b)
+
+  -- Adding undoes subtracting.
+  pub difference-sum : (a b : ℕ) → a < 2 ^ k → b < 2 ^ k → sumOf k (differenceOf k a b) b ≡ a
+  difference-sum a b ha hb =
+      let e : a + (2 ^ k - b) + b ≡ a + 2 ^ k = omega arith in
+      mod-add-mod (a + (2 ^ k - b)) (2 ^ k) b ∙ (ap (λ (n : ℕ). n % 2 ^ k) e ∙ (add-mod-right a (2 ^ k) ∙ mod-eq-of-lt ha))
+
+  -- The last word and one more is 0.
+  pub last-wraps : sumOf k (2 ^ k - 1) 1 ≡ 0
+  last-wraps =
+      let h = pow-pos k in
+      let e : 2 ^ k - 1 + 1 ≡ 2 ^ k = omega arith in
+      ap (λ (n : ℕ). n % 2 ^ k) e ∙ mod-self (2 ^ k)
+
+  -- 0 has as many leading zeros as a word has bits.
+  pub zeros-of-zero : zerosOf k 0 ≡ k
+  zeros-of-zero = leading-of-zero k
+
+  -- A shift by the width is none.
+  pub left-by-width : (a : ℕ) → a < 2 ^ k → leftOf k a k ≡ a
+  left-by-width a h = rw (mod-self k) (ap (λ (n : ℕ). n % 2 ^ k) (one a) ∙ mod-eq-of-lt h)
+    where
+      one : (n : ℕ) → n * 1 ≡ n
+      one n = omega arith

@@ -1,0 +1,46 @@
+-- Words of k bits, as numbers below 2 ^ k, and what the operators do to them (document 01, "Operators"). Assumes nothing.
+use Prim.Native.Nat.{ℕ, _+_, _-_, _*_, _/_, _%_, _^_}
+use lib.Bits.{bitAnd, bitOr, bitXor}
+use lib.Count.{ones, leadingZeros}
+
+-- "Words are 16 bits": the width stands here alone
+abbrev pub width : ℕ
+width = 16
+
+-- "sums wrap": 1 add
+abbrev pub sumOf : ℕ → ℕ → ℕ → ℕ
+sumOf k a b = (a + b) % 2 ^ k
+
+-- 2 subtract
+abbrev pub differenceOf : ℕ → ℕ → ℕ → ℕ
+differenceOf k a b = (a + (2 ^ k - b)) % 2 ^ k
+
+-- 3 multiply (low 16 bits)
+abbrev pub productOf : ℕ → ℕ → ℕ → ℕ
+productOf k a b = (a * b) % 2 ^ k
+
+-- 4 and, 5 or, 6 exclusive or: bit by bit
+abbrev pub andOf : ℕ → ℕ → ℕ
+andOf a b = bitAnd a b
+
+abbrev pub orOf : ℕ → ℕ → ℕ
+orOf a b = bitOr a b
+
+abbrev pub xorOf : ℕ → ℕ → ℕ
+xorOf a b = bitXor a b
+
+-- 7 shift left; "the amount is taken modulo 16"
+abbrev pub leftOf : ℕ → ℕ → ℕ → ℕ
+leftOf k a b = (a * 2 ^ (b % k)) % 2 ^ k
+
+-- 8 logical shift right
+abbrev pub rightOf : ℕ → ℕ → ℕ → ℕ
+rightOf k a b = a / 2 ^ (b % k)
+
+-- 9 count of ones
+abbrev pub onesOf : ℕ → ℕ
+onesOf a = ones a
+
+-- 10 leading zeros (16 for 0)
+abbrev pub zerosOf : ℕ → ℕ → ℕ
+zerosOf k a = leadingZeros k a
