@@ -1,5 +1,6 @@
 // What definitions and code share: the records of document 01 as structs, and its numbers by name. The
 // definitions themselves are in specs/, in the order of document 01. No functions.
+pub mod numbers;
 
 // A record of a rule.
 pub struct Record {

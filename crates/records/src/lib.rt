@@ -1,0 +1,51 @@
+// Records of 8 bytes in a lent byte slice. What stands past the last byte reads as 0, so nothing reads past a
+// slice whatever its length. No function has a `requires`.
+use semantics::Record;
+use semantics::Term;
+ghost use mathlib.Core.Path.{_≡_};
+ghost use Prim.Native.Nat.{_+_, _*_};
+ghost use lib.ListN.{getD};
+ghost use Rattle.semantics.specs.Records.{recordAt};
+ghost use Rattle.semantics.specs.Terms.{termAt};
+
+// The byte at a position; 0 past the end.
+pub fn byte(s: &[u8], at: usize) -> u8
+    ensures { λ r. ⌜ r ≡ getD (now (s .entry)) at 0 ⌝ }
+{
+    if at < s.len() { s[at] } else { 0 }
+}
+
+// The number of two bytes.
+fn pair(low: u8, high: u8) -> u16
+    ensures { λ r. ⌜ r ≡ low + 256 * high ⌝ }
+{
+    (low as u16) + 256 * (high as u16)
+}
+
+// The record with a number, of a rule.
+pub fn record_at(s: &[u8], i: u16) -> Record
+    ensures { λ r. ⌜ r ≡ recordAt (now (s .entry)) i ⌝ }
+{
+    let at = 8 * (i as usize);
+    Record {
+        kind: byte(s, at),
+        op: byte(s, at + 1),
+        p: pair(byte(s, at + 2), byte(s, at + 2 + 1)),
+        q: pair(byte(s, at + 4), byte(s, at + 4 + 1)),
+        r: pair(byte(s, at + 6), byte(s, at + 6 + 1)),
+    }
+}
+
+// The term with a number, of a table: cut in the same way.
+pub fn term_at(s: &[u8], i: u16) -> Term
+    ensures { λ r. ⌜ r ≡ termAt (now (s .entry)) i ⌝ }
+{
+    let x = record_at(s, i);
+    Term {
+        kind: x.kind,
+        op: x.op,
+        a: x.p,
+        b: x.q,
+        c: x.r,
+    }
+}
