@@ -37,7 +37,15 @@ module _ {A : Type 0} (x y : A) {z : A} where
   unfolding if_then_else_
   val-false b h g = rw h g
 
-  -- a test that is the answer of a call
+  -- where the test is the answer of a call
+  pub val-said : (v : Bool) {b : Bool} → b ≡ v → b ≡ true → z ≡ x → z ≡ (if v then x else y)
+  unfolding if_then_else_
+  val-said v e h g = rw (← e, h) g
+
+  pub val-denied : (v : Bool) {b : Bool} → b ≡ v → b ≡ false → z ≡ y → z ≡ (if v then x else y)
+  unfolding if_then_else_
+  val-denied v e h g = rw (← e, h) g
+
   pub val-passed : (v : Bool) {b : Bool} → b ≡ v → b ≡ true → z ≡ y → z ≡ (unless v then x else y)
   unfolding unless_then_else_
   val-passed v e h g = rw (← e, h) g
@@ -50,4 +58,4 @@ pub val-with : {A B : Type 0} {z : A} (v : B) (f : B → A) {b : B} → b ≡ v 
 unfolding with
 val-with v f e g = rw e at g
 
-pub ruleset values = (val-with, val-eq, val-ne, val-other, val-lt, val-ge, val-true, val-false, val-passed, val-failed)
+pub ruleset values = (val-with, val-eq, val-ne, val-other, val-lt, val-ge, val-true, val-false, val-said, val-denied, val-passed, val-failed)

@@ -5,7 +5,7 @@ use mathlib.Core.Bool.{Bool, true, false, not, _&&_, _||_}
 use mathlib.Core.List.{List, [], _∷_, _++_}
 use lib.Dec.{eqb, ltb}
 use lib.ListN.{take, drop, length, replicate}
-use Rattle.notation.specs.Notation.{with, if_then_else_, if_equals_then_else_, if_below_then_else_}
+use Rattle.notation.specs.Notation.{pick, with, if_then_else_, if_equals_then_else_, if_below_then_else_}
 use Rattle.operators.specs.Operators.{operandsOf, givesTruthOf}
 use Rattle.semantics.specs.declared.Record.{Record}
 use Rattle.semantics.specs.declared.Term.{Term}
@@ -46,17 +46,21 @@ imageOf l (t ∷ ts) = put (imageOf l ts) (length ts) t
 -- term n; blank where there is none
 unfoldable pub at : List Term → ℕ → Term
 at [] n = blank
-at (t ∷ ts) n = elim (eqb n (length ts)) [ true ↦ t | false ↦ at ts n ]
+at (t ∷ ts) n = let lower : Term = at ts n in pick (eqb n (length ts)) t lower
 
 -- two terms are equal: every field is. The others are compared only where a is the same.
 unfoldable pub sameOf : Term → Term → Bool
 sameOf x y =
-    elim (eqb (x .a) (y .a)) [ true ↦ eqb (x .kind) (y .kind) && (eqb (x .op) (y .op) && (eqb (x .b) (y .b) && eqb (x .c) (y .c))) | false ↦ false ]
+    let others : Bool = eqb (x .kind) (y .kind) && (eqb (x .op) (y .op) && (eqb (x .b) (y .b) && eqb (x .c) (y .c))) in
+    pick (eqb (x .a) (y .a)) others false
 
 -- where "a term equal to one present" stands
 unfoldable pub findOf : List Term → Term → Found
 findOf [] t = record { is = false; at = 0 }
-findOf (u ∷ us) t = elim (sameOf u t) [ true ↦ record { is = true; at = length us } | false ↦ findOf us t ]
+findOf (u ∷ us) t =
+    let here : Found = record { is = true; at = length us } in
+    let lower : Found = findOf us t in
+    pick (sameOf u t) here lower
 
 -- ---- what a term stands for, by its kind: a truth ("kinds 1 and 3, or an operator giving a truth"), a word, a choice, a procedure, a binding;
 -- 0 for what is no term

@@ -1,0 +1,196 @@
+// The table of terms in a lent byte slice: reading a term, and making one. A step that makes terms promises
+// `Gives`: what it answers, read with the table at exit, is what its definition gives at entry, and only records
+// past the count are written. No public function has a `requires`: reads past the end give 0, and making tests
+// the room itself.
+use semantics::Found;
+use semantics::Term;
+use semantics::numbers;
+ghost use mathlib.Core.Path.{_≡_};
+ghost use mathlib.Core.List.{_++_};
+ghost use Prim.Native.Nat.{_≤_, max};
+ghost use lib.ListN.{length, drop};
+ghost use Rattle.semantics.specs.Terms.{termsIn, at as «term-number», bytesOf, sameOf, sortOf, knownOf};
+ghost use Rattle.semantics.specs.Steps.{makeOf};
+ghost use Rattle.terms.specs.Search.{floorOf, findFrom};
+ghost use Rattle.terms.specs.Gives.{Gives};
+
+// The number of a term in a table that then has `count` terms; or a refusal, where it is not 0.
+pub struct Made {
+    pub refusal: u8,
+    pub count: u16,
+    pub number: u16,
+}
+
+// Term i of a table with `count` terms; a blank one where there is none.
+pub fn term(table: &[u8], count: u16, i: u16) -> Term
+    ensures { λ r. ⌜ r ≡ «term-number» (termsIn (now (table .entry)) count) i ⌝ }
+{
+    if i < count {
+        return records::term_at(table, i);
+    }
+    Term {
+        kind: 0,
+        op: 0,
+        a: 0,
+        b: 0,
+        c: 0,
+    }
+}
+
+// What a term stands for: a truth, a word, a choice, a procedure or a binding; 0 for none of these.
+pub fn sort(t: Term) -> u8
+    ensures { λ r. ⌜ r ≡ sortOf t ⌝ }
+{
+    let k = t.kind;
+    match k {
+        numbers::TRUTH_TERM => numbers::TRUTH_TERM,
+        numbers::WORD_TERM => numbers::WORD_TERM,
+        numbers::FREE_TRUTH_TERM => numbers::TRUTH_TERM,
+        numbers::FREE_WORD_TERM => numbers::WORD_TERM,
+        numbers::OPERATOR_TERM => if operators::gives_truth(t.op) {
+            numbers::TRUTH_TERM
+        } else {
+            numbers::WORD_TERM
+        },
+        numbers::CHOICE_TERM => numbers::CHOICE_TERM,
+        numbers::PROCEDURE_TERM => numbers::PROCEDURE_TERM,
+        numbers::BINDING_TERM => numbers::BINDING_TERM,
+        _ => 0,
+    }
+}
+
+pub fn sort_at(table: &[u8], count: u16, i: u16) -> u8
+    ensures { λ r. ⌜ r ≡ sortOf («term-number» (termsIn (now (table .entry)) count) i) ⌝ }
+{
+    sort(term(table, count, i))
+}
+
+// A truth constant: 0 false, 1 true; 2 is anything else.
+fn constant(t: Term) -> u8
+    ensures { λ r. ⌜ r ≡ knownOf t ⌝ }
+{
+    if t.kind == numbers::TRUTH_TERM {
+        if t.a == 0 { 0 } else { 1 }
+    } else {
+        2
+    }
+}
+
+pub fn known(table: &[u8], count: u16, i: u16) -> u8
+    ensures { λ r. ⌜ r ≡ knownOf («term-number» (termsIn (now (table .entry)) count) i) ⌝ }
+{
+    constant(term(table, count, i))
+}
+
+pub fn same(x: Term, y: Term) -> bool
+    ensures { λ r. ⌜ r ≡ sameOf x y ⌝ }
+{
+    if x.a == y.a {
+        if x.kind == y.kind {
+            if x.op == y.op {
+                if x.b == y.b { x.c == y.c } else { false }
+            } else {
+                false
+            }
+        } else {
+            false
+        }
+    } else {
+        false
+    }
+}
+
+fn wide(x: u16) -> usize
+    ensures { λ r. ⌜ r ≡ x ⌝ }
+{
+    x as usize
+}
+
+fn larger(a: u16, b: u16) -> u16
+    ensures { λ r. ⌜ r ≡ max a b ⌝ }
+{
+    if a < b { b } else { a }
+}
+
+// The number from which on a term equal to t can stand: a term names only lower ones.
+fn floor(t: Term) -> usize
+    ensures { λ r. ⌜ r ≡ floorOf t ⌝ }
+{
+    let k = t.kind;
+    match k {
+        numbers::OPERATOR_TERM => larger(t.a, t.b) as usize + 1,
+        numbers::CHOICE_TERM => larger(larger(t.a, t.b), t.c) as usize + 1,
+        numbers::PROCEDURE_TERM => t.b as usize + 1,
+        numbers::BINDING_TERM => if t.b == numbers::NO_BINDING {
+            t.a as usize + 1
+        } else {
+            larger(t.a, t.b) as usize + 1
+        },
+        _ => 0,
+    }
+}
+
+// The newest term equal to t, searched for down to its largest operand.
+fn find(table: &[u8], count: u16, t: Term) -> Found
+    ensures { λ r. ⌜ r ≡ findFrom (floorOf t) (termsIn (now (table .entry)) count) t ⌝ }
+{
+    let low = floor(t);
+    let mut i = count;
+    while low < wide(i) {
+        i -= 1;
+        if same(records::term_at(table, i), t) {
+            return Found { is: true, at: i };
+        }
+    }
+    Found { is: false, at: 0 }
+}
+
+// A record at the start of the free tail.
+fn write(tail: &mut [u8], t: Term)
+    requires { ⌜ 8 ≤ length (now tail) ⌝ }
+    ensures { λ _. ⌜ now (tail .exit) ≡ bytesOf t ++ drop 8 (now (tail .entry)) ⌝ }
+{
+    tail[0] = t.kind;
+    tail[1] = t.op;
+    tail[2] = (t.a % 256) as u8;
+    tail[3] = (t.a / 256) as u8;
+    tail[4] = (t.b % 256) as u8;
+    tail[5] = (t.b / 256) as u8;
+    tail[6] = (t.c % 256) as u8;
+    tail[7] = (t.c / 256) as u8;
+}
+
+// A term equal to one present takes that number; another takes the next, unless the table is full.
+pub fn make(table: &mut [u8], count: u16, t: Term) -> Made
+    ensures { λ r. ⌜ Gives (makeOf t) (now (table .entry)) count (r .refusal) (r .count) 0 (r .number) (now (table .exit)) ⌝ }
+{
+    let f = find(table, count, t);
+    if f.is {
+        return Made {
+            refusal: 0,
+            count: count,
+            number: f.at,
+        };
+    }
+    if count >= numbers::TERM_LIMIT {
+        return Made {
+            refusal: numbers::TABLE_FULL,
+            count: count,
+            number: 0,
+        };
+    }
+    let at = (count as usize) * 8;
+    if table.len() < at + 8 {
+        return Made {
+            refusal: numbers::TABLE_FULL,
+            count: count,
+            number: 0,
+        };
+    }
+    write(&mut table[at..], t);
+    Made {
+        refusal: 0,
+        count: count + 1,
+        number: count,
+    }
+}
