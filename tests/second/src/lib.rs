@@ -1,0 +1,32 @@
+//! A second evaluator for the yard rule desk, for comparing answers.
+
+mod evaluate;
+mod opening;
+mod print;
+mod read;
+mod records;
+mod rules;
+mod run;
+mod session;
+mod state;
+mod terms;
+mod words;
+
+pub use evaluate::{evaluate, Answer};
+pub use opening::open;
+pub use print::print;
+pub use read::{read, ResultOf};
+pub use records::{records, Record};
+pub use run::run;
+pub use session::{Input, Session};
+
+/// What reading or a plain run answers. A procedure is its record number.
+#[derive(Clone, Copy, PartialEq, Eq, Debug)]
+pub enum Outcome {
+    Truth(bool),
+    Word(u16),
+    Procedure(u16),
+    Abort,
+    Error,
+    Refused(u8),
+}

@@ -1,0 +1,81 @@
+pub const IS_FALSE: u8 = 13;
+pub const IS_WORD: u8 = 14;
+pub const IS_PROCEDURE: u8 = 15;
+pub const NOT: u8 = 32;
+pub const AND: u8 = 33;
+pub const OR: u8 = 34;
+pub const TRUTH: u8 = 35;
+
+/// What a term or a record can come to.
+#[derive(Clone, Copy, PartialEq, Eq, Debug)]
+pub enum Value<P> {
+    Truth(bool),
+    Word(u16),
+    Procedure(P),
+}
+
+impl<P> Value<P> {
+    /// Only false fails a test.
+    pub fn holds(&self) -> bool {
+        !matches!(self, Value::Truth(false))
+    }
+
+    pub fn word(&self) -> Option<u16> {
+        match self {
+            Value::Word(word) => Some(*word),
+            _ => None,
+        }
+    }
+}
+
+/// Operand count and result kind of an operator code; no operands, no such code.
+#[derive(Clone, Copy)]
+pub struct Shape {
+    pub operands: u8,
+    pub truth: bool,
+}
+
+const NONE: Shape = shape_of(0, false);
+const WORD_1: Shape = shape_of(1, false);
+const WORD_2: Shape = shape_of(2, false);
+const TRUTH_1: Shape = shape_of(1, true);
+const TRUTH_2: Shape = shape_of(2, true);
+
+const fn shape_of(operands: u8, truth: bool) -> Shape {
+    Shape { operands, truth }
+}
+
+#[rustfmt::skip]
+const SHAPES: [Shape; 36] = [
+    NONE, WORD_2, WORD_2, WORD_2, WORD_2, WORD_2, WORD_2, WORD_2,
+    WORD_2, WORD_1, WORD_1, TRUTH_2, TRUTH_2, TRUTH_1, TRUTH_1, TRUTH_1,
+    NONE, NONE, NONE, NONE, NONE, NONE, NONE, NONE,
+    NONE, NONE, NONE, NONE, NONE, NONE, NONE, NONE,
+    TRUTH_1, TRUTH_2, TRUTH_2, TRUTH_1,
+];
+
+/// The shape of any code; an unknown one has no operands.
+pub fn shape(op: u8) -> Shape {
+    SHAPES.get(usize::from(op)).copied().unwrap_or(NONE)
+}
+
+/// An operator 1 to 12 on its operands, or nothing if one of them is no word.
+pub fn on_words<P>(op: u8, x: Option<u16>, y: Option<u16>) -> Option<Value<P>> {
+    let x = x?;
+    let y = if shape(op).operands == 2 { y? } else { 0 };
+    Some(match op {
+        1 => Value::Word(x.wrapping_add(y)),
+        2 => Value::Word(x.wrapping_sub(y)),
+        3 => Value::Word(x.wrapping_mul(y)),
+        4 => Value::Word(x & y),
+        5 => Value::Word(x | y),
+        6 => Value::Word(x ^ y),
+        7 => Value::Word(x << (y % 16)),
+        8 => Value::Word(x >> (y % 16)),
+        9 => Value::Word(x.count_ones() as u16),
+        10 => Value::Word(x.leading_zeros() as u16),
+        11 => Value::Truth(x < y),
+        12 => Value::Truth(x == y),
+        _ => return None,
+    })
+}
