@@ -1,3 +1,5 @@
 pub mod Laws
 pub mod Put
 pub mod Steps
+pub mod Wiped
+pub mod Arrays

@@ -1,9 +1,9 @@
 -- What code that takes a step over a lent table promises. Assumes nothing.
 use mathlib.Core.Path.{_≡_}
-use Prim.Native.Nat.{ℕ, zero, suc, _+_, _*_, _<_, _≤_, max}
+use Prim.Native.Nat.{ℕ, zero, suc, _+_, _-_, _*_, _<_, _≤_, max}
 use mathlib.Core.Bool.{Bool, true, false}
-use mathlib.Core.List.{List, [], _∷_}
-use lib.ListN.{getD, length}
+use mathlib.Core.List.{List, [], _∷_, _++_}
+use lib.ListN.{getD, length, take, replicate}
 use lib.Dec.{eqb}
 use Rattle.notation.specs.Notation.{pick}
 use Rattle.semantics.specs.declared.Term.{Term}
@@ -42,3 +42,7 @@ pub record Leads {A : Type 0} (m : Make A) (s : List ℕ) (n d : ℕ) (l : Make 
 unfoldable pub from : {A : Type 0} → A → List A → ℕ → ℕ → List A
 from z l i zero = []
 from z l i (suc k) = getD l i z ∷ from z l (i + 1) k
+
+-- zero from a place on
+unfoldable pub wiped : List ℕ → ℕ → List ℕ
+wiped s k = take k s ++ replicate (length s - k) 0

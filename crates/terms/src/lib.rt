@@ -12,7 +12,7 @@ ghost use lib.ListN.{length, drop};
 ghost use Rattle.semantics.specs.Terms.{termsIn, at as «term-number», bytesOf, sameOf, sortOf, knownOf};
 ghost use Rattle.semantics.specs.Steps.{makeOf};
 ghost use Rattle.terms.specs.Search.{floorOf, findFrom};
-ghost use Rattle.terms.specs.Gives.{Gives};
+ghost use Rattle.terms.specs.Gives.{Gives, wiped};
 
 // The number of a term in a table that then has `count` terms; or a refusal, where it is not 0.
 pub struct Made {
@@ -192,5 +192,14 @@ pub fn make(table: &mut [u8], count: u16, t: Term) -> Made
         refusal: 0,
         count: count + 1,
         number: count,
+    }
+}
+
+// Zero from a place on.
+pub fn wipe(table: &mut [u8], from: usize)
+    ensures { λ _. ⌜ now (table .exit) ≡ wiped (now (table .entry)) from ⌝ }
+{
+    for k in from..table.len() {
+        table[k] = 0;
     }
 }

@@ -1,0 +1,208 @@
+// Opening a session: the refusals 1 and 2, and the terms of the inputs, made through the same factory path as
+// evaluation's. A refused table is left untouched. No public function has a `requires`.
+use semantics::Input;
+use semantics::Opened;
+use semantics::Session;
+use semantics::State;
+use semantics::Term;
+use semantics::numbers;
+use terms::Made;
+ghost use mathlib.Core.Path.{_≡_};
+ghost use Prim.Native.Nat.{_-_, _≤_};
+ghost use lib.ListN.{getD};
+ghost use Rattle.semantics.specs.Rules.{every};
+ghost use Rattle.semantics.specs.Opening.{badTableSize, inputTaken, inputTerm, sessionOf, openOf};
+ghost use Rattle.terms.specs.Gives.{Gives, from};
+ghost use Rattle.opening.specs.Openings.{noInput, openFrom, openAll};
+
+// Refusal 1, of a table's length in bytes.
+pub fn bad_table_size(l: usize) -> bool
+    ensures { λ r. ⌜ r ≡ badTableSize l ⌝ }
+{
+    if l % 8 == 0 {
+        if l < numbers::LEAST_TABLE {
+            return true;
+        }
+        return numbers::MOST_TABLE < l;
+    }
+    true
+}
+
+// An input that opening takes.
+fn input_taken(x: Input) -> bool
+    ensures { λ r. ⌜ r ≡ inputTaken x ⌝ }
+{
+    let k = x.kind;
+    match k {
+        numbers::CONSTANT_TRUTH => x.value < 2,
+        numbers::CONSTANT_WORD => true,
+        numbers::FREE_TRUTH => x.value == 0,
+        numbers::FREE_WORD => x.value == 0,
+        _ => false,
+    }
+}
+
+// Input i; a blank one past the last.
+fn input(inputs: [Input; 16], i: u16) -> Input
+    ensures { λ r. ⌜ r ≡ getD inputs i noInput ⌝ }
+{
+    let at = i as usize;
+    if at < 16 {
+        inputs[at]
+    } else {
+        Input { kind: 0, value: 0 }
+    }
+}
+
+// Refusal 2 does not come.
+pub fn inputs_taken(inputs: [Input; 16]) -> bool
+    ensures { λ r. ⌜ r ≡ every inputTaken inputs ⌝ }
+{
+    let mut i = numbers::INPUT_COUNT;
+    while i > 0 {
+        i -= 1;
+        if input_taken(input(inputs, i)) {} else {
+            return false;
+        }
+    }
+    true
+}
+
+// The term of input i.
+fn input_term(i: u16, x: Input) -> Term
+    ensures { λ r. ⌜ r ≡ inputTerm i x ⌝ }
+{
+    let k = x.kind;
+    match k {
+        numbers::CONSTANT_TRUTH => Term {
+            kind: numbers::TRUTH_TERM,
+            op: 0,
+            a: x.value,
+            b: 0,
+            c: 0,
+        },
+        numbers::CONSTANT_WORD => Term {
+            kind: numbers::WORD_TERM,
+            op: 0,
+            a: x.value,
+            b: 0,
+            c: 0,
+        },
+        numbers::FREE_TRUTH => Term {
+            kind: numbers::FREE_TRUTH_TERM,
+            op: 0,
+            a: i,
+            b: 0,
+            c: 0,
+        },
+        _ => Term {
+            kind: numbers::FREE_WORD_TERM,
+            op: 0,
+            a: i,
+            b: 0,
+            c: 0,
+        },
+    }
+}
+
+// The terms of the inputs from number i on, then their bindings, the last input's first.
+fn open_from(table: &mut [u8], count: u16, inputs: [Input; 16], i: u16) -> Made
+    requires { ⌜ i ≤ 16 ⌝ }
+    ensures { λ r. ⌜ Gives (openFrom i (from noInput inputs i (16 - i))) (now (table .entry)) count (r .refusal) (r .count) 0 (r .number) (now (table .exit)) ⌝ }
+{
+    if i >= numbers::INPUT_COUNT {
+        return Made {
+            refusal: 0,
+            count: count,
+            number: numbers::NO_BINDING,
+        };
+    }
+    let v = terms::make(table, count, input_term(i, input(inputs, i)));
+    if v.refusal != 0 {
+        return v;
+    }
+    let e = open_from(table, v.count, inputs, i + 1);
+    if e.refusal != 0 {
+        return e;
+    }
+    terms::make(
+        table,
+        e.count,
+        Term {
+            kind: numbers::BINDING_TERM,
+            op: 0,
+            a: v.number,
+            b: e.number,
+            c: 0,
+        },
+    )
+}
+
+// All terms of an opening, on a table with none yet.
+fn open_all(table: &mut [u8], inputs: [Input; 16]) -> Made
+    ensures { λ r. ⌜ Gives (openAll inputs) (now (table .entry)) 0 (r .refusal) (r .count) 0 (r .number) (now (table .exit)) ⌝ }
+{
+    let no = Term {
+        kind: numbers::TRUTH_TERM,
+        op: 0,
+        a: 0,
+        b: 0,
+        c: 0,
+    };
+    let f = terms::make(table, 0, no);
+    if f.refusal != 0 {
+        return f;
+    }
+    let yes = Term {
+        kind: numbers::TRUTH_TERM,
+        op: 0,
+        a: 1,
+        b: 0,
+        c: 0,
+    };
+    let t = terms::make(table, f.count, yes);
+    if t.refusal != 0 {
+        return t;
+    }
+    open_from(table, t.count, inputs, 0)
+}
+
+// The session at the start, with `count` terms.
+fn session(inputs: [Input; 16], count: u16) -> Session
+    ensures { λ r. ⌜ r ≡ sessionOf inputs count ⌝ }
+{
+    Session {
+        inputs: inputs,
+        count: count,
+        state: State {
+            assumed: numbers::TRUE_NUMBER,
+            asserted: numbers::TRUE_NUMBER,
+        },
+        halted: false,
+        accepted: 0,
+    }
+}
+
+// A session over a lent table, which then holds the terms of the inputs and zeros; or a refusal, by 1 or 2.
+pub fn open(inputs: [Input; 16], table: &mut [u8]) -> Opened
+    ensures { λ r. ⌜ (r, now (table .exit)) ≡ openOf inputs (now (table .entry)) ⌝ }
+{
+    if bad_table_size(table.len()) {
+        return Opened {
+            refusal: numbers::TABLE_SIZE,
+            session: session(inputs, 0),
+        };
+    }
+    if inputs_taken(inputs) {} else {
+        return Opened {
+            refusal: numbers::BAD_INPUT,
+            session: session(inputs, 0),
+        };
+    }
+    terms::wipe(table, 0);
+    let m = open_all(table, inputs);
+    Opened {
+        refusal: 0,
+        session: session(inputs, m.count),
+    }
+}
