@@ -69,7 +69,7 @@ module _ (xs : List Input) (s w : List ℕ) (ew : w ≡ wiped s 0) (z : badTable
       let k : w ≡ replicate (length w) 0 = ew ∙ (zeros s ∙ ap (λ (l : ℕ). replicate l 0) (sym size)) in
       g .kept .whole k ∙ ap (λ (l : ℕ). imageOf l (termsIn y c)) (g .kept .long ∙ size)
 
-  terms : termsIn y c ≡ opening xs .terms
+  pub terms : termsIn y c ≡ opening xs .terms
   unfolding opening termsIn
   terms =
       let q = sized (length s) z in

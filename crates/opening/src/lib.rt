@@ -139,7 +139,7 @@ fn open_from(table: &mut [u8], count: u16, inputs: [Input; 16], i: u16) -> Made
 }
 
 // All terms of an opening, on a table with none yet.
-fn open_all(table: &mut [u8], inputs: [Input; 16]) -> Made
+pub fn open_all(table: &mut [u8], inputs: [Input; 16]) -> Made
     ensures { λ r. ⌜ Gives (openAll inputs) (now (table .entry)) 0 (r .refusal) (r .count) 0 (r .number) (now (table .exit)) ⌝ }
 {
     let no = Term {

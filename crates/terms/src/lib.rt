@@ -131,7 +131,7 @@ fn floor(t: Term) -> usize
 }
 
 // The newest term equal to t, searched for down to its largest operand.
-fn find(table: &[u8], count: u16, t: Term) -> Found
+pub fn find(table: &[u8], count: u16, t: Term) -> Found
     ensures { λ r. ⌜ r ≡ findFrom (floorOf t) (termsIn (now (table .entry)) count) t ⌝ }
 {
     let low = floor(t);

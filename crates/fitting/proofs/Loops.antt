@@ -1,0 +1,108 @@
+-- Tests over the terms of a table, from the newest down, and over a slice's tail: each way through a loop, given that what is left of the test
+-- decides it (`z` is what the whole test gives). Assumes nothing.
+use mathlib.Core.Path.{_≡_, refl, sym, ap, _∙_}
+use mathlib.Core.Bool.{Bool, true, false, not, _&&_, and-false}
+use mathlib.Core.List.{List, [], _∷_}
+use Prim.Native.Nat.{ℕ, zero, suc, _+_, _-_, _<_, _≤_}
+use native.Mathlib.Numerals.{add-one}
+use native.Mathlib.Omega.{arith}
+use lib.ListN.{length, getD, take, drop, drop-of-length-le}
+use lib.Seq.{drop-cons}
+use lib.Dec.{eqb}
+use borrow.Author.Tests.{eq-eqb, ne-eqb}
+use Rattle.notation.specs.Notation.{pick, if_then_else_}
+use Rattle.semantics.specs.declared.Term.{Term}
+use Rattle.semantics.specs.declared.Found.{Found}
+use Rattle.semantics.specs.Rules.{every}
+use Rattle.semantics.specs.Terms.{termAt, termsIn, sameOf, findOf, laidOut, wellFormed}
+use Rattle.semantics.specs.Fits.{sameTerms, noFree, isZero}
+use Rattle.terms.specs.Search.{findAbove}
+use Rattle.typing.proofs.Formed.{find-same}
+use Rattle.fitting.specs.Formed.{formedOf}
+
+module _ (s y : List ℕ) {z : Bool} where
+  pub same-end : (i : ℕ) → sameTerms (termsIn s i) (termsIn y i) ≡ z → i ≤ 0 → true ≡ z
+  unfolding sameTerms termsIn
+  same-end zero inv h = inv
+  same-end (suc i) inv h = absurd (omega arith)
+
+  turn : (i : ℕ) → sameTerms (termsIn s i) (termsIn y i) ≡ z → 0 < i → {t u : Term} → t ≡ termAt s (i - 1) → u ≡ termAt y (i - 1) → {b : Bool} → b ≡ sameOf t u
+      → (b && sameTerms (termsIn s (i - 1)) (termsIn y (i - 1))) ≡ z
+  unfolding sameTerms termsIn
+  turn zero inv h et eu eb = absurd (omega arith)
+  turn (suc i) inv h et eu eb = let e : suc i - 1 ≡ i = omega arith in rw (eb, et, eu, e) inv
+
+  module _ (i : ℕ) (inv : sameTerms (termsIn s i) (termsIn y i) ≡ z) (h : 0 < i) {t u : Term} (et : t ≡ termAt s (i - 1)) (eu : u ≡ termAt y (i - 1)) {b : Bool} (eb : b ≡ sameOf t u) where
+    pub same-next : b ≡ true → sameTerms (termsIn s (i - 1)) (termsIn y (i - 1)) ≡ z
+    same-next g = rw g at (turn i inv h et eu eb)
+
+    pub same-miss : b ≡ false → false ≡ z
+    same-miss g = rw g at (turn i inv h et eu eb)
+
+module _ (s : List ℕ) (n : ℕ) {z : Bool} where
+  pub formed-end : (i : ℕ) → formedOf n (termsIn s i) ≡ z → i ≤ 0 → true ≡ z
+  unfolding formedOf termsIn
+  formed-end zero inv h = inv
+  formed-end (suc i) inv h = absurd (omega arith)
+
+  again : (i : ℕ) → formedOf n (termsIn s i) ≡ z → 0 < i → {t : Term} → t ≡ termAt s (i - 1) → {b : Bool} → b ≡ laidOut n (termsIn s (i - 1)) t
+      → {f : Found} → f ≡ findAbove (termsIn s (i - 1)) t → (b && (not (f .is) && formedOf n (termsIn s (i - 1)))) ≡ z
+  unfolding formedOf termsIn
+  again zero inv h et eb ef = absurd (omega arith)
+  again (suc i) inv h et eb ef = let e : suc i - 1 ≡ i = omega arith in rw (eb, ef, et, e) inv
+
+  module _ (i : ℕ) (inv : formedOf n (termsIn s i) ≡ z) (h : 0 < i) {t : Term} (et : t ≡ termAt s (i - 1)) {b : Bool} (eb : b ≡ laidOut n (termsIn s (i - 1)) t) where
+    pub formed-miss : b ≡ false → false ≡ z
+    formed-miss g = rw g at (again i inv h et eb refl)
+
+    module _ (g : b ≡ true) {f : Found} (ef : f ≡ findAbove (termsIn s (i - 1)) t) where
+      pub formed-twice : f .is ≡ true → false ≡ z
+      formed-twice k = rw (g, k) at (again i inv h et eb ef)
+
+      pub formed-next : f .is ≡ false → formedOf n (termsIn s (i - 1)) ≡ z
+      formed-next k = rw (g, k) at (again i inv h et eb ef)
+
+module _ (s : List ℕ) (n : ℕ) {z : Bool} where
+  pub free-end : (i : ℕ) → every noFree (take (i - n) (termsIn s i)) ≡ z → i ≤ n → true ≡ z
+  unfolding every
+  free-end i inv h = let e : i - n ≡ zero = omega arith in rw e at inv
+
+  next-free : (i : ℕ) → every noFree (take (i - n) (termsIn s i)) ≡ z → n < i → {t : Term} → t ≡ termAt s (i - 1) → {b : Bool} → b ≡ noFree t
+      → pick b (every noFree (take (i - 1 - n) (termsIn s (i - 1)))) false ≡ z
+  unfolding every termsIn if_then_else_
+  next-free zero inv h et eb = absurd (omega arith)
+  next-free (suc i) inv h et eb =
+      let e : suc i - 1 ≡ i = omega arith in let u : suc i - n ≡ suc (i - n) = omega arith in rw (eb, et, e) (rw u at inv)
+
+  module _ (i : ℕ) (inv : every noFree (take (i - n) (termsIn s i)) ≡ z) (h : n < i) {t : Term} (et : t ≡ termAt s (i - 1)) {b : Bool} (eb : b ≡ noFree t) where
+    pub free-next : b ≡ true → every noFree (take (i - 1 - n) (termsIn s (i - 1))) ≡ z
+    free-next g = rw g at (next-free i inv h et eb)
+
+    pub free-miss : b ≡ false → false ≡ z
+    free-miss g = rw g at (next-free i inv h et eb)
+
+module _ (s : List ℕ) {z : Bool} (i : ℕ) (inv : every isZero (drop i s) ≡ z) where
+  pub zero-end : length s ≤ i → true ≡ z
+  unfolding every
+  zero-end h = rw (drop-of-length-le s h) at inv
+
+  module _ (h : i < length s) where
+    left : pick (eqb (getD s i 0) 0) (every isZero (drop (i + 1) s)) false ≡ z
+    unfolding every isZero if_then_else_
+    left = rw add-one (rw (drop-cons s i 0 h) at inv)
+
+    pub zero-next : getD s i 0 ≡ 0 → every isZero (drop (i + 1) s) ≡ z
+    zero-next e = rw (eq-eqb _ _ e) at left
+
+    pub zero-miss : (getD s i 0 ≡ 0 → ⊥) → false ≡ z
+    zero-miss e = rw (ne-eqb _ _ e) at left
+
+-- Searching only above the largest operand tells the same tables apart.
+pub formed-same : (n : ℕ) (ts : List Term) → formedOf n ts ≡ wellFormed n ts
+unfolding formedOf wellFormed
+formed-same n [] = refl
+formed-same n (t ∷ ts) = rw (formed-same n ts) (go (wellFormed n ts) refl)
+  where
+    go : (b : Bool) → wellFormed n ts ≡ b → (laidOut n ts t && (not (findAbove ts t .is) && b)) ≡ (laidOut n ts t && (not (findOf ts t .is) && b))
+    go true e = rw (find-same n t ts e)
+    go false e = rw (and-false (not (findAbove ts t .is)), and-false (not (findOf ts t .is)))

@@ -1,0 +1,43 @@
+-- Test 3 as a whole: each way out of it, with an opening's terms made anew on 34 records of zeros. Assumes nothing.
+use mathlib.Core.Path.{_≡_, refl, sym, ap, _∙_}
+use mathlib.Core.Bool.{Bool, true, false, not, _&&_, _||_}
+use mathlib.Core.List.{List, [], _∷_, _++_}
+use Prim.Native.Nat.{ℕ, _+_, _-_, _*_, _%_}
+use lib.ListN.{length, take, replicate}
+use Rattle.semantics.specs.declared.Term.{Term}
+use Rattle.semantics.specs.declared.Input.{Input}
+use Rattle.semantics.specs.declared.Session.{Session}
+use Rattle.semantics.specs.Rules.{every}
+use Rattle.semantics.specs.Terms.{termsIn}
+use Rattle.semantics.specs.Opening.{badTableSize, inputTaken, opening}
+use Rattle.semantics.specs.Fits.{fitsOf}
+use Rattle.terms.specs.Gives.{Gives, wiped}
+use Rattle.opening.specs.Openings.{openAll}
+use Rattle.opening.proofs.Opened.{terms}
+use Rattle.fitting.specs.Formed.{openingFits}
+
+zeros : _≡_ {A = List ℕ} (replicate 272 0) (wiped (replicate 272 0) 0)
+unfolding wiped
+zeros = refl
+
+enough : badTableSize (length {A = ℕ} (replicate 272 0)) ≡ false
+unfolding badTableSize
+enough = refl
+
+module _ (x : Session) (s : List ℕ) {b : Bool} (eb : b ≡ badTableSize (length s)) where
+  pub misfit-size : b ≡ true → false ≡ fitsOf x s
+  unfolding fitsOf
+  misfit-size h = rw (← eb, h)
+
+  module _ (h : b ≡ false) {d : Bool} (ed : d ≡ every inputTaken (x .inputs)) where
+    pub misfit-input : d ≡ false → false ≡ fitsOf x s
+    unfolding fitsOf
+    misfit-input k = rw (← eb, h, ← ed, k)
+
+    pub fits-on : d ≡ true → {os : List Term} → (every inputTaken (x .inputs) ≡ true → os ≡ opening (x .inputs) .terms) → {v : Bool} → v ≡ openingFits x s os → v ≡ fitsOf x s
+    unfolding fitsOf
+    fits-on k o ev = rw (← eb, h, ← ed, k, ← o (sym ed ∙ k)) ev
+
+-- the opening's terms, made on 34 records of zeros
+pub fresh-terms : (xs : List Input) → length xs ≡ 16 → {r c e : ℕ} {y : List ℕ} → Gives (openAll xs) (replicate 272 0) 0 r c 0 e y → every inputTaken xs ≡ true → termsIn y c ≡ opening xs .terms
+fresh-terms xs n g t = terms xs (replicate 272 0) (replicate 272 0) zeros enough t n g

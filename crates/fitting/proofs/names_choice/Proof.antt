@@ -1,0 +1,15 @@
+-- `fitting::names_choice` meets its contract. Assumes nothing.
+use borrow.Author.Needs.{needs}
+use Rattle.semantics.specs.Terms.{namesChoice}
+use Rattle.fitting.proofs.names_choice.Statement.{statement}
+use Rattle.fitting.proofs.names_choice.Tie as tie
+
+sort-at-requires : tie.Need-sort-at-requires
+sort-at-requires c κs = search needs
+
+returns : tie.Need-returns
+unfolding namesChoice
+returns c = rw (c .sort-at .ensures)
+
+pub names-choice-spec : {M : Type 1} → statement M
+names-choice-spec = tie.close (tie.spec sort-at-requires returns)

@@ -1,0 +1,58 @@
+-- Test 3 as the code goes about it: repeats are searched for down to the largest operand. Assumes nothing.
+use Prim.Native.Nat.{ℕ, _*_, _-_}
+use mathlib.Core.Bool.{Bool, true, false, not, _&&_, _||_}
+use mathlib.Core.List.{List, [], _∷_}
+use lib.Dec.{eqb, ltb, leb}
+use lib.ListN.{length, take, drop}
+use Rattle.notation.specs.Notation.{if_equals_then_else_}
+use Rattle.operators.specs.Operators.{operandsOf}
+use Rattle.semantics.specs.declared.Term.{Term}
+use Rattle.semantics.specs.declared.Session.{Session}
+use Rattle.semantics.specs.Numbers.{recordLimit, noBinding, ruleLimit}
+use Rattle.semantics.specs.Records.{recordsIn}
+use Rattle.semantics.specs.Rules.{every}
+use Rattle.semantics.specs.Terms.{namesTruth, namesBinding, namesValue, laidOut, termsIn, wellFormed}
+use Rattle.semantics.specs.Fits.{sameTerms, noFree, isZero}
+use Rattle.terms.specs.Search.{findAbove}
+
+-- ---- the layout, kind by kind
+abbrev pub onlyA : Term → Bool
+onlyA t = eqb (t .b) 0 && eqb (t .c) 0
+
+abbrev pub choiceLaid : List Term → Term → Bool
+choiceLaid ts t = namesTruth ts (t .a) && (namesValue ts (t .b) && namesValue ts (t .c))
+
+abbrev pub procedureLaid : ℕ → List Term → Term → Bool
+procedureLaid n ts t = ltb (t .a) recordLimit && (namesBinding ts (t .b) && ltb (t .c) n)
+
+-- a next binding, or none
+abbrev pub nextLaid : List Term → ℕ → Bool
+nextLaid ts b = eqb b noBinding || namesBinding ts b
+
+abbrev pub bindingLaid : List Term → Term → Bool
+bindingLaid ts t = namesValue ts (t .a) && (nextLaid ts (t .b) && eqb (t .c) 0)
+
+-- the operands of a code from 1 to 12
+abbrev pub wordsLaid : List Term → ℕ → ℕ → ℕ → Bool
+wordsLaid ts op a b = namesValue ts a && (if operandsOf op equals 1 then eqb b 0 else namesValue ts b)
+
+-- every term is laid out, and none is found again below it
+unfoldable pub formedOf : ℕ → List Term → Bool
+formedOf n [] = true
+formedOf n (t ∷ ts) = laidOut n ts t && (not (findAbove ts t .is) && formedOf n ts)
+
+-- ---- test 3, cut where the code cuts it
+
+-- "a formula is no truth below the count, or the accepted count is over 1,000"
+abbrev pub formulasFit : Session → List Term → Bool
+formulasFit x ts = namesTruth ts (x .state .assumed) && (namesTruth ts (x .state .asserted) && leb (x .accepted) ruleLimit)
+
+-- the layout, repeats and the tail
+abbrev pub recordsFit : Session → List ℕ → Bool
+recordsFit x s = wellFormed (x .accepted) (termsIn s (x .count)) && (every isZero (drop (8 * x .count) s) && formulasFit x (termsIn s (x .count)))
+
+-- the count and the beginning, with an opening's terms os
+abbrev pub openingFits : Session → List ℕ → List Term → Bool
+openingFits x s os =
+    leb (length os) (x .count) && (leb (x .count) (recordsIn s) && (sameTerms (termsIn s (length os)) os
+    && (every noFree (take (x .count - length os) (termsIn s (x .count))) && recordsFit x s)))

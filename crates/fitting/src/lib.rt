@@ -1,0 +1,349 @@
+// Test 3: whether a session and a table fit. It goes once over the table, searching for repeats only above each
+// term's largest operand, and makes the opening's terms anew to compare them. No public function has a `requires`.
+use semantics::Input;
+use semantics::Session;
+use semantics::Term;
+use semantics::numbers;
+ghost use mathlib.Core.Bool.{true, _&&_};
+ghost use mathlib.Core.Path.{_≡_};
+ghost use Prim.Native.Nat.{_-_};
+ghost use lib.Dec.{eqb};
+ghost use lib.ListN.{take, drop};
+ghost use Rattle.semantics.specs.Rules.{every};
+ghost use Rattle.semantics.specs.Terms.{termsIn, namesTruth, namesChoice, namesBinding, namesValue, operandsLaidOut, laidOut, wellFormed};
+ghost use Rattle.semantics.specs.Opening.{inputTaken, opening};
+ghost use Rattle.semantics.specs.Fits.{sameTerms, noFree, isZero, fitsOf};
+ghost use Rattle.fitting.specs.Formed.{onlyA, choiceLaid, procedureLaid, nextLaid, bindingLaid, wordsLaid, formulasFit, recordsFit, openingFits};
+
+// Whether a number names a lower truth: one of the first n terms.
+pub fn names_truth(table: &[u8], n: u16, x: u16) -> bool
+    ensures { λ r. ⌜ r ≡ namesTruth (termsIn (now (table .entry)) n) x ⌝ }
+{
+    terms::sort_at(table, n, x) == numbers::TRUTH_TERM
+}
+
+fn names_choice(table: &[u8], n: u16, x: u16) -> bool
+    ensures { λ r. ⌜ r ≡ namesChoice (termsIn (now (table .entry)) n) x ⌝ }
+{
+    terms::sort_at(table, n, x) == numbers::CHOICE_TERM
+}
+
+fn names_binding(table: &[u8], n: u16, x: u16) -> bool
+    ensures { λ r. ⌜ r ≡ namesBinding (termsIn (now (table .entry)) n) x ⌝ }
+{
+    terms::sort_at(table, n, x) == numbers::BINDING_TERM
+}
+
+// Anything but a binding.
+pub fn names_value(table: &[u8], n: u16, x: u16) -> bool
+    ensures { λ r. ⌜ r ≡ namesValue (termsIn (now (table .entry)) n) x ⌝ }
+{
+    let k = terms::sort_at(table, n, x);
+    if k == 0 {
+        return false;
+    }
+    k != numbers::BINDING_TERM
+}
+
+// Of an operator 1 to 12: a second operand that there is none of is zero.
+fn words_laid(table: &[u8], n: u16, op: u8, a: u16, b: u16) -> bool
+    ensures { λ r. ⌜ r ≡ wordsLaid (termsIn (now (table .entry)) n) op a b ⌝ }
+{
+    if names_value(table, n, a) {
+        if operators::operands(op) == 1 {
+            return b == 0;
+        }
+        return names_value(table, n, b);
+    }
+    false
+}
+
+fn two_truths(table: &[u8], n: u16, a: u16, b: u16) -> bool
+    ensures { λ r. ⌜ r ≡ (namesTruth (termsIn (now (table .entry)) n) a && namesTruth (termsIn (now (table .entry)) n) b) ⌝ }
+{
+    if names_truth(table, n, a) {
+        names_truth(table, n, b)
+    } else {
+        false
+    }
+}
+
+fn one_truth(table: &[u8], n: u16, a: u16, b: u16) -> bool
+    ensures { λ r. ⌜ r ≡ (namesTruth (termsIn (now (table .entry)) n) a && eqb b 0) ⌝ }
+{
+    if names_truth(table, n, a) {
+        b == 0
+    } else {
+        false
+    }
+}
+
+fn one_choice(table: &[u8], n: u16, a: u16, b: u16) -> bool
+    ensures { λ r. ⌜ r ≡ (namesChoice (termsIn (now (table .entry)) n) a && eqb b 0) ⌝ }
+{
+    if names_choice(table, n, a) {
+        b == 0
+    } else {
+        false
+    }
+}
+
+// The operands of an operator term over the first n terms; false for a code that makes no term.
+fn operands_laid(table: &[u8], n: u16, op: u8, a: u16, b: u16) -> bool
+    ensures { λ r. ⌜ r ≡ operandsLaidOut (termsIn (now (table .entry)) n) op a b ⌝ }
+{
+    if op == 0 {
+        return false;
+    }
+    if op < numbers::NOT_CODE {
+        return words_laid(table, n, op, a, b);
+    }
+    match op {
+        numbers::IS_WORD_CODE => one_choice(table, n, a, b),
+        numbers::IS_PROCEDURE_CODE => one_choice(table, n, a, b),
+        numbers::NEGATION_CODE => one_truth(table, n, a, b),
+        numbers::CONJUNCTION_CODE => two_truths(table, n, a, b),
+        numbers::DISJUNCTION_CODE => two_truths(table, n, a, b),
+        numbers::TRUTH_CODE => one_choice(table, n, a, b),
+        _ => false,
+    }
+}
+
+fn only_a(t: Term) -> bool
+    ensures { λ r. ⌜ r ≡ onlyA t ⌝ }
+{
+    if t.b == 0 { t.c == 0 } else { false }
+}
+
+fn choice_laid(table: &[u8], n: u16, t: Term) -> bool
+    ensures { λ r. ⌜ r ≡ choiceLaid (termsIn (now (table .entry)) n) t ⌝ }
+{
+    if names_truth(table, n, t.a) {
+        if names_value(table, n, t.b) {
+            names_value(table, n, t.c)
+        } else {
+            false
+        }
+    } else {
+        false
+    }
+}
+
+fn procedure_laid(table: &[u8], n: u16, accepted: u16, t: Term) -> bool
+    ensures { λ r. ⌜ r ≡ procedureLaid accepted (termsIn (now (table .entry)) n) t ⌝ }
+{
+    if t.a < numbers::RECORD_LIMIT {
+        if names_binding(table, n, t.b) {
+            t.c < accepted
+        } else {
+            false
+        }
+    } else {
+        false
+    }
+}
+
+fn next_laid(table: &[u8], n: u16, b: u16) -> bool
+    ensures { λ r. ⌜ r ≡ nextLaid (termsIn (now (table .entry)) n) b ⌝ }
+{
+    if b == numbers::NO_BINDING {
+        true
+    } else {
+        names_binding(table, n, b)
+    }
+}
+
+fn binding_laid(table: &[u8], n: u16, t: Term) -> bool
+    ensures { λ r. ⌜ r ≡ bindingLaid (termsIn (now (table .entry)) n) t ⌝ }
+{
+    if names_value(table, n, t.a) {
+        if next_laid(table, n, t.b) {
+            t.c == 0
+        } else {
+            false
+        }
+    } else {
+        false
+    }
+}
+
+// Whether a term is laid out over the first n.
+fn laid_out(table: &[u8], n: u16, accepted: u16, t: Term) -> bool
+    ensures { λ r. ⌜ r ≡ laidOut accepted (termsIn (now (table .entry)) n) t ⌝ }
+{
+    let k = t.kind;
+    if k == numbers::OPERATOR_TERM {
+        if operands_laid(table, n, t.op, t.a, t.b) {
+            return t.c == 0;
+        }
+        return false;
+    }
+    if t.op != 0 {
+        return false;
+    }
+    match k {
+        numbers::TRUTH_TERM => if t.a < 2 { only_a(t) } else { false },
+        numbers::WORD_TERM => only_a(t),
+        numbers::FREE_TRUTH_TERM => if t.a < numbers::INPUT_COUNT {
+            only_a(t)
+        } else {
+            false
+        },
+        numbers::FREE_WORD_TERM => if t.a < numbers::INPUT_COUNT {
+            only_a(t)
+        } else {
+            false
+        },
+        numbers::CHOICE_TERM => choice_laid(table, n, t),
+        numbers::PROCEDURE_TERM => procedure_laid(table, n, accepted, t),
+        numbers::BINDING_TERM => binding_laid(table, n, t),
+        _ => false,
+    }
+}
+
+// Whether every one of the first n terms is laid out and none is repeated.
+fn well_formed(table: &[u8], n: u16, accepted: u16) -> bool
+    ensures { λ r. ⌜ r ≡ wellFormed accepted (termsIn (now (table .entry)) n) ⌝ }
+{
+    let mut i = n;
+    while i > 0 {
+        i -= 1;
+        let t = records::term_at(table, i);
+        if laid_out(table, i, accepted, t) {} else {
+            return false;
+        }
+        let f = terms::find(table, i, t);
+        if f.is {
+            return false;
+        }
+    }
+    true
+}
+
+// Whether two tables begin with the same n terms.
+fn begins(table: &[u8], fresh: &[u8], n: u16) -> bool
+    ensures { λ r. ⌜ r ≡ sameTerms (termsIn (now (table .entry)) n) (termsIn (now (fresh .entry)) n) ⌝ }
+{
+    let mut i = n;
+    while i > 0 {
+        i -= 1;
+        if terms::same(records::term_at(table, i), records::term_at(fresh, i)) {} else {
+            return false;
+        }
+    }
+    true
+}
+
+fn no_free(t: Term) -> bool
+    ensures { λ r. ⌜ r ≡ noFree t ⌝ }
+{
+    if t.kind == numbers::FREE_TRUTH_TERM {
+        return false;
+    }
+    t.kind != numbers::FREE_WORD_TERM
+}
+
+// Whether no free input stands past the first n of `count` terms.
+fn none_free(table: &[u8], n: u16, count: u16) -> bool
+    ensures { λ r. ⌜ r ≡ every noFree (take (count - n) (termsIn (now (table .entry)) count)) ⌝ }
+{
+    let mut i = count;
+    while i > n {
+        i -= 1;
+        if no_free(records::term_at(table, i)) {} else {
+            return false;
+        }
+    }
+    true
+}
+
+// Whether a slice is zero from a place on.
+fn zero_from(s: &[u8], at: usize) -> bool
+    ensures { λ r. ⌜ r ≡ every isZero (drop at (now (s .entry))) ⌝ }
+{
+    let mut i = at;
+    while i < s.len() {
+        if s[i] != 0 {
+            return false;
+        }
+        i += 1;
+    }
+    true
+}
+
+fn formulas_fit(table: &[u8], session: Session) -> bool
+    ensures { λ r. ⌜ r ≡ formulasFit session (termsIn (now (table .entry)) (session .count)) ⌝ }
+{
+    let x = session.state;
+    if names_truth(table, session.count, x.assumed) {
+        if names_truth(table, session.count, x.asserted) {
+            return session.accepted <= numbers::RULE_LIMIT;
+        }
+        return false;
+    }
+    false
+}
+
+fn records_fit(table: &[u8], session: Session) -> bool
+    ensures { λ r. ⌜ r ≡ recordsFit session (now (table .entry)) ⌝ }
+{
+    if well_formed(table, session.count, session.accepted) {
+        if zero_from(table, 8 * (session.count as usize)) {
+            return formulas_fit(table, session);
+        }
+        return false;
+    }
+    false
+}
+
+// Whether a table begins with the n terms of another, and the rest of it fits.
+fn opening_fits(table: &[u8], fresh: &[u8], n: u16, session: Session) -> bool
+    ensures { λ r. ⌜ r ≡ openingFits session (now (table .entry)) (termsIn (now (fresh .entry)) n) ⌝ }
+{
+    if session.count < n {
+        return false;
+    }
+    if table.len() / 8 < session.count as usize {
+        return false;
+    }
+    if begins(table, fresh, n) {} else {
+        return false;
+    }
+    if none_free(table, n, session.count) {
+        return records_fit(table, session);
+    }
+    false
+}
+
+// The terms of an opening on a table of their own, of as many records as an opening can need.
+struct Fresh {
+    count: u16,
+    bytes: [u8; 272],
+}
+
+fn fresh_opening(inputs: [Input; 16]) -> Fresh
+    ensures { λ r. ⌜ (every inputTaken inputs ≡ true → termsIn (r .bytes) (r .count) ≡ opening inputs .terms) ⌝ }
+{
+    let mut bytes: [u8; 272] = [0; 272];
+    let o = opening::open_all(&mut bytes, inputs);
+    Fresh {
+        count: o.count,
+        bytes: bytes,
+    }
+}
+
+// Test 3: whether a session and a table fit.
+pub fn fits(session: Session, table: &[u8]) -> bool
+    ensures { λ r. ⌜ r ≡ fitsOf session (now (table .entry)) ⌝ }
+{
+    if opening::bad_table_size(table.len()) {
+        return false;
+    }
+    let inputs = session.inputs;
+    if opening::inputs_taken(inputs) {} else {
+        return false;
+    }
+    let o = fresh_opening(inputs);
+    let fresh = o.bytes;
+    opening_fits(table, &fresh, o.count, session)
+}

@@ -1,0 +1,6 @@
+pub mod Sorts
+pub mod Values
+pub mod Bytes
+pub mod Chains
+pub mod Steps
+pub mod Inputs

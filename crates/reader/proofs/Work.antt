@@ -1,0 +1,118 @@
+-- The work list: each place holds what its term reads as, and in the end zero. Assumes nothing.
+use mathlib.Core.Path.{_≡_, refl, ap, _∙_}
+use mathlib.Core.Bool.{Bool, true, false}
+use mathlib.Core.List.{List, [], _∷_, _++_, append-nil}
+use Prim.Native.Nat.{ℕ, suc, _+_, _*_, _/_, _%_, _<_, _≤_}
+use native.Mathlib.Numerals.{add-one}
+use native.Mathlib.Omega.{arith}
+use lib.ListN.{length, getD, set, drop, replicate, drop-of-length-le, List·getD-eq-default}
+use lib.Seq.{getD-set-same, getD-set-other}
+use lib.Dec.{eqb, ltb}
+use borrow.Author.Fill.{fill-more}
+use borrow.Author.Tests.{eqb-true, eqb-false, ltb-true, ltb-false, lt-ltb, le-ltb}
+use Rattle.notation.specs.Notation.{pick, with, if_equals_then_else_, if_below_then_else_}
+use Rattle.semantics.specs.declared.Term.{Term}
+use Rattle.semantics.specs.declared.Result.{Result}
+use Rattle.semantics.specs.declared.Reading.{Reading}
+use Rattle.semantics.specs.declared.Outcome.{Outcome}
+use Rattle.semantics.specs.declared.Outcome.the-variants.{Refused}
+use Rattle.semantics.specs.Numbers.{workShort}
+use Rattle.semantics.specs.Terms.{termAt, termsIn}
+use Rattle.semantics.specs.Reading.{readingOf, nothing, isTrue, termReading, nth, readings, resultOutcome, readIn}
+use Rattle.terms.proofs.Laws.{terms-length}
+use Rattle.reader.specs.Reader.{unpackedOf, lowerOf, Reads, outcomeIn}
+
+-- ---- a place
+
+-- a reading comes back as it was packed
+pub packed : (k n : ℕ) → k < 256 → n < 65536 → unpackedOf (65536 * k + n) ≡ readingOf k n
+unfolding unpackedOf
+packed k n h l =
+    let p : (65536 * k + n) / 65536 % 256 ≡ k = omega arith in
+    let q : (65536 * k + n) % 65536 ≡ n = omega arith in
+    rw (p, q)
+
+-- what is read below i, and past it
+module _ (m : List ℕ) (i k : ℕ) where
+  pub lower-in : k < i → {v : Reading} → v ≡ unpackedOf (getD m k 0) → v ≡ lowerOf m i k
+  unfolding lowerOf if_below_then_else_
+  lower-in h g = rw (lt-ltb k i h) g
+
+  pub lower-past : k < i → length m ≤ k → nothing ≡ lowerOf m i k
+  unfolding lowerOf unpackedOf if_below_then_else_
+  lower-past h l = rw (lt-ltb k i h, List·getD-eq-default m 0 l)
+
+  pub lower-out : i ≤ k → nothing ≡ lowerOf m i k
+  unfolding lowerOf if_below_then_else_
+  lower-out h = rw (le-ltb k i h)
+
+pub ruleset lowers = (lower-in, lower-past, lower-out)
+
+-- ---- what the terms read as
+
+readings-length : (numbers : List ℕ) (ts : List Term) → length (readings numbers ts) ≡ length ts
+unfolding readings with
+readings-length numbers [] = refl
+readings-length numbers (t ∷ ts) = ap suc (readings-length numbers ts)
+
+-- of none
+pub reads-start : (numbers s m : List ℕ) → Reads numbers s 0 m
+unfolding readings termsIn nth lowerOf if_below_then_else_
+reads-start numbers s m = record { is = λ k. rw (le-ltb k 0 (omega arith)) }
+
+-- of one more: what is packed is the term's reading, from those below it
+pub reads-next : {numbers s : List ℕ} {i : ℕ} {m : List ℕ} (n : ℕ) {t : Term} {x y z v : Reading} → Reads numbers s i m → i < length m → t ≡ termAt s i
+    → x ≡ lowerOf m i (t .a) → y ≡ lowerOf m i (t .b) → z ≡ lowerOf m i (t .c) → v ≡ termReading numbers t x y z → unpackedOf n ≡ v → Reads numbers s (i + 1) (set m i n)
+unfolding readings termsIn nth lowerOf with if_below_then_else_ if_equals_then_else_
+reads-next {numbers} {s} {i} {m} n {t} {x} {y} {z} {v} g h et ex ey ez ev en =
+    record { is = λ k. rw (add-one, readings-length numbers (termsIn s i), terms-length s i) (go k (eqb k i) refl) }
+  where
+    vs : List Reading
+    vs = readings numbers (termsIn s i)
+
+    last : Reading
+    last = termReading numbers (termAt s i) (nth vs (termAt s i .a)) (nth vs (termAt s i .b)) (nth vs (termAt s i .c))
+
+    new : unpackedOf n ≡ last
+    new = rw (← et, ← g .is (t .a), ← g .is (t .b), ← g .is (t .c), ← ex, ← ey, ← ez) (en ∙ ev)
+
+    go : (k : ℕ) (b : Bool) → eqb k i ≡ b → pick (ltb k (suc i)) (unpackedOf (getD (set m i n) k 0)) nothing ≡ pick b last (nth vs k)
+    go k true q = let e : k ≡ i = eqb-true k i q in rw (lt-ltb k (suc i) (omega arith), e, getD-set-same m i n 0 h) new
+    go k false q =
+        rw (getD-set-other m i k n 0 (eqb-false k i q)) (low (ltb k i) refl)
+      where
+        low : (b : Bool) → ltb k i ≡ b → pick (ltb k (suc i)) (unpackedOf (getD m k 0)) nothing ≡ nth vs k
+        low true w = rw (lt-ltb k (suc i) (omega (arith, ltb-true k i w))) (rw w at (g .is k))
+        low false w = rw (le-ltb k (suc i) (omega (arith, ltb-false k i w, eqb-false k i q))) (rw w at (g .is k))
+
+-- of all
+pub reads-end : (numbers s : List ℕ) (i n : ℕ) (m : List ℕ) → Reads numbers s i m → i ≤ n → n ≤ i → Reads numbers s n m
+reads-end numbers s i n m g a b = let e : i ≡ n = omega arith in rw e at g
+
+-- ---- what the result reads as, of l places
+
+module _ (s : List ℕ) (count : ℕ) (numbers : List ℕ) (r : Result) (l : ℕ) where
+  -- refused
+  pub outcome-short : l < count → Refused workShort ≡ outcomeIn s count numbers r l
+  unfolding outcomeIn if_below_then_else_
+  outcome-short h = rw (lt-ltb l count h)
+
+  -- read
+  pub outcome-read : count ≤ l → {m : List ℕ} → Reads numbers s count m → {x y v : Reading}
+      → x ≡ lowerOf m count (r .state .assumed) → y ≡ lowerOf m count (r .state .asserted) → v ≡ lowerOf m count (r .value)
+      → {o : Outcome} → o ≡ resultOutcome (isTrue x) (isTrue y) (r .halted) v → o ≡ outcomeIn s count numbers r l
+  unfolding outcomeIn readIn if_below_then_else_
+  outcome-read h g ex ey ev eo =
+      rw (le-ltb l count h, ← g .is (r .state .assumed), ← g .is (r .state .asserted), ← g .is (r .value), ← ex, ← ey, ← ev) eo
+
+-- ---- zero, from the first place on
+
+module _ (d : List ℕ) (k : ℕ) {m : List ℕ} (inv : m ≡ replicate k 0 ++ drop k d) where
+  pub wipe-next : k < length d → set m k 0 ≡ replicate (k + 1) 0 ++ drop (k + 1) d
+  wipe-next h = rw inv (fill-more k 0 d h)
+
+  pub wipe-end : k ≤ length d → length d ≤ k → m ≡ replicate (length d) 0
+  wipe-end h l = let e : k ≡ length d = omega arith in inv ∙ rw (drop-of-length-le d l, append-nil, e)
+
+pub zero-as : {m : List ℕ} (a b : ℕ) → m ≡ replicate a 0 → a ≡ b → m ≡ replicate b 0
+zero-as a b p q = rw q at p

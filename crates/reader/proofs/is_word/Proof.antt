@@ -1,0 +1,12 @@
+-- `reader::is_word` meets its contract. Assumes nothing.
+use borrow.Author.Needs.{needs}
+use Rattle.semantics.specs.Reading.{isWord}
+use Rattle.reader.proofs.is_word.Statement.{statement}
+use Rattle.reader.proofs.is_word.Tie as tie
+
+returns : tie.Need-returns
+unfolding isWord
+returns c = search needs
+
+pub is-word-spec : {M : Type 1} → statement M
+is-word-spec = tie.close (tie.spec returns)

@@ -1,0 +1,56 @@
+-- `reader::wipe` meets its contract. The invariant: the first k places are zero and the others as they were. The measure is the length less k.
+-- Assumes nothing.
+use borrow.Author.Needs.{needs}
+use mathlib.Core.Path.{_≡_, refl}
+use mathlib.Core.List.{_++_}
+use Prim.Native.Nat.{_-_, _≤_}
+use lib.ListN.{length, drop, replicate}
+use native.Mathlib.Omega.{arith}
+use Rattle.reader.proofs.Work.{wipe-next, wipe-end}
+use Rattle.reader.proofs.wipe.Statement.{statement}
+use Rattle.reader.proofs.wipe.Tie as tie
+
+abbrev Inv-loop : tie.InvT-loop
+Inv-loop work₀ k₀ work k = ((length work ≡ length work₀) × (k ≤ length work₀)) × (work ≡ replicate k 0 ++ drop k work₀)
+
+abbrev μ-loop : tie.MeasureT-loop
+μ-loop work₀ k₀ work k = length work₀ - k
+
+loop-holds : tie.Need-loop-holds Inv-loop μ-loop
+loop-holds c = ((refl, search needs), refl)
+
+mul-work : tie.Need-mul-work Inv-loop μ-loop
+mul-work c = search needs
+
+slice-write-work : tie.Need-slice-write-work Inv-loop μ-loop
+slice-write-work c = search needs
+
+add-k : tie.Need-add-k Inv-loop μ-loop
+add-k c = search needs
+
+loop-less : tie.Need-loop-less Inv-loop μ-loop
+loop-less c = search needs
+
+loop-again : tie.Need-loop-again Inv-loop μ-loop
+loop-again c = (search needs, wipe-next _ _ (c .before .loop .inv .1) (omega arith))
+
+same-length : tie.Need-same-length Inv-loop μ-loop
+same-length c = search needs
+
+returns : tie.Need-returns Inv-loop μ-loop
+returns c = wipe-end (c .before .before .args .work .now) (c .before .loop .k) (c .before .loop .inv .1) (omega arith) (omega arith)
+
+pub wipe-spec : {M : Type 1} → statement M
+wipe-spec =
+    tie.close
+    (tie.spec
+    Inv-loop
+    μ-loop
+    loop-holds
+    mul-work
+    slice-write-work
+    add-k
+    loop-less
+    loop-again
+    same-length
+    returns)

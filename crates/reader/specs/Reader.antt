@@ -1,0 +1,36 @@
+-- What the reader promises, and its work list, which holds a number for each term. Assumes nothing.
+use mathlib.Core.Path.{_≡_}
+use mathlib.Core.Bool.{Bool, true}
+use mathlib.Core.List.{List}
+use Prim.Native.Nat.{ℕ, _/_, _%_}
+use lib.Dec.{ltb}
+use lib.ListN.{getD}
+use Rattle.notation.specs.Notation.{if_equals_then_else_, if_below_then_else_}
+use Rattle.semantics.specs.declared.Input.{Input}
+use Rattle.semantics.specs.declared.Result.{Result}
+use Rattle.semantics.specs.declared.Reading.{Reading}
+use Rattle.semantics.specs.declared.Outcome.{Outcome}
+use Rattle.semantics.specs.declared.Outcome.the-variants.{Refused}
+use Rattle.semantics.specs.Numbers.{freeTruth, workShort}
+use Rattle.semantics.specs.Terms.{termsIn}
+use Rattle.semantics.specs.Reading.{readingOf, nothing, nth, readings, readIn}
+
+-- 13, of one input: "a free truth given a number over 1" is not taken
+unfoldable pub numberTaken : Input → ℕ → Bool
+numberTaken x n = if x .kind equals freeTruth then ltb n 2 else true
+
+-- what a result reads as in the table s; 15: "work list shorter than the count"; the work list has l places
+unfoldable pub outcomeIn : List ℕ → ℕ → List ℕ → Result → ℕ → Outcome
+outcomeIn s count numbers r l = if l below count then Refused workShort else readIn (readings numbers (termsIn s count)) r
+
+-- the reading that a place of the work list holds: 65,536 times its sort, and its number
+unfoldable pub unpackedOf : ℕ → Reading
+unpackedOf n = readingOf (n / 65536 % 256) (n % 65536)
+
+-- what the term k reads as, of the first i in a work list
+unfoldable pub lowerOf : List ℕ → ℕ → ℕ → Reading
+lowerOf work i k = if k below i then unpackedOf (getD work k 0) else nothing
+
+-- the work list holds what the first i terms of the table s read as
+pub record Reads (numbers s : List ℕ) (i : ℕ) (work : List ℕ) : Type 0 where
+  pub is : (k : ℕ) → lowerOf work i k ≡ nth (readings numbers (termsIn s i)) k

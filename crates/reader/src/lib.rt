@@ -1,0 +1,388 @@
+// The reader of results: whether the numbers and the result are such as can be read, and what a result reads as
+// under sixteen numbers. It takes the table as it stands and does not test that it is well formed. No public
+// function has a `requires`: a term that is not there reads as nothing, and a short work list is refused.
+use semantics::Input;
+use semantics::Outcome;
+use semantics::Reading;
+use semantics::Result;
+use semantics::Term;
+use semantics::numbers;
+ghost use mathlib.Core.Path.{_≡_};
+ghost use mathlib.Core.Bool.{_&&_, _||_, not};
+ghost use Prim.Native.Nat.{_≤_};
+ghost use lib.ListN.{length, getD, replicate};
+ghost use Rattle.semantics.specs.Terms.{termsIn, namesTruth, namesValue};
+ghost use Rattle.semantics.specs.Reading.{truthReading, isTrue, isTruth, isWord, passes as «passes-test», resultReading, operandsAreWords, operationReading, operatorReading, termReading, valueOutcome, resultOutcome, numbersTaken, resultTaken};
+ghost use Rattle.reader.specs.Reader.{numberTaken, outcomeIn, unpackedOf, lowerOf, Reads};
+
+// How many words there are: what a sort counts in a place of the work list.
+const WORDS: u32 = 65536;
+
+// No free truth is given a number over 1.
+pub fn numbers_taken(inputs: [Input; 16], numbers: [u16; 16]) -> bool
+    ensures { λ r. ⌜ r ≡ numbersTaken inputs numbers ⌝ }
+{
+    let mut i: u16 = 0;
+    while i < numbers::INPUT_COUNT {
+        if number_taken(inputs[i as usize], numbers[i as usize]) {
+            i += 1;
+        } else {
+            return false;
+        }
+    }
+    true
+}
+
+// Any number will do for an input that is no free truth.
+fn number_taken(x: Input, n: u16) -> bool
+    ensures { λ r. ⌜ r ≡ numberTaken x n ⌝ }
+{
+    if x.kind == numbers::FREE_TRUTH {
+        n < 2
+    } else {
+        true
+    }
+}
+
+// What is assumed and what is asserted are truths below the count, and the value is below it and no binding. A
+// halt has no value.
+pub fn result_taken(table: &[u8], count: u16, result: Result) -> bool
+    ensures { λ r. ⌜ r ≡ resultTaken (termsIn (now (table .entry)) count) result ⌝ }
+{
+    if names_truth(table, count, result.state.assumed) {
+        if names_truth(table, count, result.state.asserted) {
+            if result.halted {
+                true
+            } else {
+                names_value(table, count, result.value)
+            }
+        } else {
+            false
+        }
+    } else {
+        false
+    }
+}
+
+// A number that is not below the count names no truth.
+fn names_truth(table: &[u8], count: u16, i: u16) -> bool
+    ensures { λ r. ⌜ r ≡ namesTruth (termsIn (now (table .entry)) count) i ⌝ }
+{
+    terms::sort_at(table, count, i) == numbers::TRUTH_TERM
+}
+
+// Anything but a binding; a number that is not below the count names nothing.
+fn names_value(table: &[u8], count: u16, i: u16) -> bool
+    ensures { λ r. ⌜ r ≡ namesValue (termsIn (now (table .entry)) count) i ⌝ }
+{
+    let k = terms::sort_at(table, count, i);
+    if k == 0 {
+        false
+    } else {
+        k != numbers::BINDING_TERM
+    }
+}
+
+// What a result reads as in a table with `count` terms. The work list has a place for each of them, or is refused;
+// it is zero on every return.
+pub fn read_result(
+    table: &[u8],
+    count: u16,
+    numbers: [u16; 16],
+    result: Result,
+    work: &mut [u32],
+) -> Outcome
+    ensures { λ r. ⌜ r ≡ outcomeIn (now (table .entry)) count numbers result (length (now (work .entry))) ⌝ ∗ ⌜ now (work .exit) ≡ replicate (length (now (work .entry))) 0 ⌝ }
+{
+    if work.len() < count as usize {
+        wipe(work);
+        return Outcome::Refused(numbers::WORK_SHORT);
+    }
+    fill(table, count, numbers, work);
+    let assumed = lower(work, count, result.state.assumed);
+    let asserted = lower(work, count, result.state.asserted);
+    let value = lower(work, count, result.value);
+    wipe(work);
+    result_outcome(assumed, asserted, result.halted, value)
+}
+
+// Every place is zero then.
+fn wipe(work: &mut [u32])
+    ensures { λ _. ⌜ now (work .exit) ≡ replicate (length (now (work .entry))) 0 ⌝ }
+{
+    let mut k: usize = 0;
+    while k < work.len() {
+        work[k] = 0;
+        k += 1;
+    }
+}
+
+// What each term reads as, from the first on: a term is read from lower ones.
+fn fill(table: &[u8], count: u16, numbers: [u16; 16], work: &mut [u32])
+    requires { ⌜ count ≤ length (now work) ⌝ }
+    ensures { λ _. ⌜ Reads numbers (now (table .entry)) count (now (work .exit)) ⌝ }
+{
+    let mut i: u16 = 0;
+    while i < count {
+        let t = records::term_at(table, i);
+        let x = lower(work, i, t.a);
+        let y = lower(work, i, t.b);
+        let z = lower(work, i, t.c);
+        let v = pack(term_reading(t, numbers, x, y, z));
+        work[i as usize] = v;
+        i += 1;
+    }
+}
+
+// What term k reads as, where it is below i; nothing where it is not.
+fn lower(work: &[u32], i: u16, k: u16) -> Reading
+    ensures { λ r. ⌜ r ≡ lowerOf (now (work .entry)) i k ⌝ }
+{
+    if k < i {
+        let at = k as usize;
+        if at < work.len() {
+            return unpack(work[at]);
+        }
+    }
+    Reading { sort: 0, number: 0 }
+}
+
+// A reading as it is kept in the work list.
+fn pack(v: Reading) -> u32
+    ensures { λ r. ⌜ unpackedOf r ≡ v ⌝ }
+{
+    WORDS * (v.sort as u32) + (v.number as u32)
+}
+
+// The reading that was packed; 0 is nothing.
+fn unpack(n: u32) -> Reading
+    ensures { λ r. ⌜ r ≡ unpackedOf n ⌝ }
+{
+    Reading {
+        sort: (n / WORDS % 256) as u8,
+        number: (n % WORDS) as u16,
+    }
+}
+
+// A term, of what a, b and c read as. A binding reads as nothing.
+fn term_reading(t: Term, numbers: [u16; 16], x: Reading, y: Reading, z: Reading) -> Reading
+    ensures { λ r. ⌜ r ≡ termReading numbers t x y z ⌝ }
+{
+    let k = t.kind;
+    match k {
+        numbers::TRUTH_TERM => Reading {
+            sort: numbers::TRUTH_TERM,
+            number: t.a,
+        },
+        numbers::WORD_TERM => Reading {
+            sort: numbers::WORD_TERM,
+            number: t.a,
+        },
+        numbers::FREE_TRUTH_TERM => Reading {
+            sort: numbers::TRUTH_TERM,
+            number: number(numbers, t.a),
+        },
+        numbers::FREE_WORD_TERM => Reading {
+            sort: numbers::WORD_TERM,
+            number: number(numbers, t.a),
+        },
+        numbers::OPERATOR_TERM => operator_reading(t.op, x, y),
+        numbers::CHOICE_TERM => if is_true(x) { y } else { z },
+        numbers::PROCEDURE_TERM => Reading {
+            sort: numbers::PROCEDURE_TERM,
+            number: t.a,
+        },
+        _ => Reading { sort: 0, number: 0 },
+    }
+}
+
+// The number of an input; 0 past the last.
+fn number(numbers: [u16; 16], i: u16) -> u16
+    ensures { λ r. ⌜ r ≡ getD numbers i 0 ⌝ }
+{
+    if i < numbers::INPUT_COUNT {
+        numbers[i as usize]
+    } else {
+        0
+    }
+}
+
+// An operator term, by its code; false for what is no code.
+fn operator_reading(op: u8, x: Reading, y: Reading) -> Reading
+    ensures { λ r. ⌜ r ≡ operatorReading op x y ⌝ }
+{
+    if op < numbers::NOT_CODE {
+        return operation_reading(op, x, y);
+    }
+    match op {
+        numbers::IS_WORD_CODE => truth_reading(is_word(x)),
+        numbers::IS_PROCEDURE_CODE => truth_reading(x.sort == numbers::PROCEDURE_TERM),
+        numbers::NEGATION_CODE => truth_reading(negation(x)),
+        numbers::CONJUNCTION_CODE => truth_reading(conjunction(x, y)),
+        numbers::DISJUNCTION_CODE => truth_reading(disjunction(x, y)),
+        numbers::TRUTH_CODE => if x.sort == 0 {
+            truth_reading(false)
+        } else {
+            truth_reading(passes(x))
+        },
+        _ => truth_reading(false),
+    }
+}
+
+// An operator on words; word 0 or false where an operand is no word.
+fn operation_reading(op: u8, x: Reading, y: Reading) -> Reading
+    ensures { λ r. ⌜ r ≡ operationReading op x y ⌝ }
+{
+    if operands_are_words(op, x, y) {
+        return result_reading(op, operators::operate(op, x.number, y.number));
+    }
+    result_reading(op, 0)
+}
+
+// An operator with one operand does not look at the second.
+fn operands_are_words(op: u8, x: Reading, y: Reading) -> bool
+    ensures { λ r. ⌜ r ≡ operandsAreWords op x y ⌝ }
+{
+    if is_word(x) {
+        if operators::operands(op) == 1 {
+            true
+        } else {
+            is_word(y)
+        }
+    } else {
+        false
+    }
+}
+
+// A number as the operator gives it: a truth or a word.
+fn result_reading(op: u8, w: u16) -> Reading
+    ensures { λ r. ⌜ r ≡ resultReading op w ⌝ }
+{
+    if operators::gives_truth(op) {
+        Reading {
+            sort: numbers::TRUTH_TERM,
+            number: w,
+        }
+    } else {
+        Reading {
+            sort: numbers::WORD_TERM,
+            number: w,
+        }
+    }
+}
+
+// True of false alone.
+fn negation(x: Reading) -> bool
+    ensures { λ r. ⌜ r ≡ (isTruth x && not (isTrue x)) ⌝ }
+{
+    if is_truth(x) {
+        if is_true(x) { false } else { true }
+    } else {
+        false
+    }
+}
+
+// False where an operand is no truth.
+fn conjunction(x: Reading, y: Reading) -> bool
+    ensures { λ r. ⌜ r ≡ (isTrue x && isTrue y) ⌝ }
+{
+    if is_true(x) { is_true(y) } else { false }
+}
+
+// False where an operand is no truth, though the other be true.
+fn disjunction(x: Reading, y: Reading) -> bool
+    ensures { λ r. ⌜ r ≡ ((isTruth x && isTruth y) && (isTrue x || isTrue y)) ⌝ }
+{
+    if are_truths(x, y) {
+        if is_true(x) { true } else { is_true(y) }
+    } else {
+        false
+    }
+}
+
+fn are_truths(x: Reading, y: Reading) -> bool
+    ensures { λ r. ⌜ r ≡ (isTruth x && isTruth y) ⌝ }
+{
+    if is_truth(x) { is_truth(y) } else { false }
+}
+
+fn truth_reading(b: bool) -> Reading
+    ensures { λ r. ⌜ r ≡ truthReading b ⌝ }
+{
+    if b {
+        Reading {
+            sort: numbers::TRUTH_TERM,
+            number: 1,
+        }
+    } else {
+        Reading {
+            sort: numbers::TRUTH_TERM,
+            number: 0,
+        }
+    }
+}
+
+// A truth, and not false.
+fn is_true(v: Reading) -> bool
+    ensures { λ r. ⌜ r ≡ isTrue v ⌝ }
+{
+    if v.sort == numbers::TRUTH_TERM {
+        v.number == 1
+    } else {
+        false
+    }
+}
+
+// Only false fails a test: what is no truth passes.
+fn passes(v: Reading) -> bool
+    ensures { λ r. ⌜ r ≡ «passes-test» v ⌝ }
+{
+    if v.sort == numbers::TRUTH_TERM {
+        v.number == 1
+    } else {
+        true
+    }
+}
+
+fn is_truth(v: Reading) -> bool
+    ensures { λ r. ⌜ r ≡ isTruth v ⌝ }
+{
+    v.sort == numbers::TRUTH_TERM
+}
+
+fn is_word(v: Reading) -> bool
+    ensures { λ r. ⌜ r ≡ isWord v ⌝ }
+{
+    v.sort == numbers::WORD_TERM
+}
+
+// Both formulas true: the value, or an error for a halt. Only what is assumed false: an abort. Otherwise an error.
+fn result_outcome(assumed: Reading, asserted: Reading, halted: bool, value: Reading) -> Outcome
+    ensures { λ r. ⌜ r ≡ resultOutcome (isTrue assumed) (isTrue asserted) halted value ⌝ }
+{
+    if is_true(asserted) {
+        if is_true(assumed) {
+            if halted {
+                Outcome::Error
+            } else {
+                value_outcome(value)
+            }
+        } else {
+            Outcome::Abort
+        }
+    } else {
+        Outcome::Error
+    }
+}
+
+// What is neither a truth nor a word is answered as a procedure.
+fn value_outcome(v: Reading) -> Outcome
+    ensures { λ r. ⌜ r ≡ valueOutcome v ⌝ }
+{
+    let k = v.sort;
+    match k {
+        numbers::TRUTH_TERM => Outcome::Truth(v.number == 1),
+        numbers::WORD_TERM => Outcome::Word(v.number),
+        _ => Outcome::Procedure(v.number),
+    }
+}

@@ -1,0 +1,134 @@
+-- What code that went one way at a test has to show, beside the laws of notation: `&&` and `||`, lists of at most two, the size of a
+-- rule, and a pass over its records. `tests` is the ruleset for `search`. Assumes nothing.
+use mathlib.Core.Path.{_≡_, refl, sym, _∙_}
+use mathlib.Core.Bool.{Bool, true, false, _&&_, _||_, true≢false, false≢true}
+use mathlib.Core.List.{List, [], _∷_}
+use Prim.Native.Nat.{ℕ, zero, suc, _+_, _-_, _<_, _≤_}
+use native.Mathlib.Numerals.{add-one}
+use native.Mathlib.Omega.{arith}
+use lib.Dec.{eqb, ltb}
+use lib.ListN.{take}
+use borrow.Author.Tests.{lt-ltb, le-ltb, eq-eqb, ne-eqb, ltb-false, eqb-true, eqb-false, not-true, not-false}
+use Rattle.notation.specs.Notation.{pick, if_then_else_}
+use Rattle.notation.proofs.Follow.{values}
+use Rattle.semantics.specs.Numbers.{ruleBytes}
+use Rattle.semantics.specs.Rules.{upTo, every, badRuleSize}
+
+-- ---- `&&` and `||`
+
+-- where a test is the answer b of a call
+pub called : {x b c : Bool} → b ≡ x → b ≡ c → x ≡ c
+called e h = sym e ∙ h
+
+module _ (x y : Bool) {z : Bool} where
+  pub and-true : x ≡ true → z ≡ y → z ≡ (x && y)
+  and-true h g = rw h g
+
+  pub and-false : x ≡ false → z ≡ false → z ≡ (x && y)
+  and-false h g = rw h g
+
+  pub or-true : x ≡ true → z ≡ true → z ≡ (x || y)
+  or-true h g = rw h g
+
+  pub or-false : x ≡ false → z ≡ y → z ≡ (x || y)
+  or-false h g = rw h g
+
+pub ruleset tests = (values, and-true, and-false, or-true, or-false, lt-ltb, le-ltb, eq-eqb, ne-eqb, not-true, not-false, called)
+
+-- what a passed test says: of `&&`, and of the same as a condition
+pub and-both : (x y : Bool) → (x && y) ≡ true → (x ≡ true) × (y ≡ true)
+and-both true y h = (refl, h)
+and-both false y h = absurd (false≢true h)
+
+pub pick-both : (x y : Bool) → pick x y false ≡ true → (x ≡ true) × (y ≡ true)
+pick-both true y h = (refl, h)
+pick-both false y h = absurd (false≢true h)
+
+-- ---- the first n of two
+
+module _ {A : Type 0} (x y : A) where
+  pub take-two : (n : ℕ) → (n ≡ 0 → ⊥) → (n ≡ 1 → ⊥) → take n (x ∷ y ∷ []) ≡ x ∷ y ∷ []
+  take-two zero h k = absurd (h refl)
+  take-two (suc zero) h k = absurd (k refl)
+  take-two (suc (suc zero)) h k = refl
+  take-two (suc (suc (suc n))) h k = refl
+
+  -- f of each of them, where they are a list l
+  module _ (f : A → Bool) (n : ℕ) {l : List A} (e : take n (x ∷ y ∷ []) ≡ l) {z : Bool} where
+    pub every-none : n ≡ 0 → z ≡ true → z ≡ every f l
+    unfolding every
+    every-none h g = rw (← e, h) g
+
+    pub every-one : n ≡ 1 → z ≡ f x → z ≡ every f l
+    unfolding every if_then_else_
+    every-one h g = rw (← e, h) (go (f x) g)
+      where
+        go : (b : Bool) → z ≡ b → z ≡ pick b true false
+        go true q = q
+        go false q = q
+
+    pub every-two : (n ≡ 0 → ⊥) → (n ≡ 1 → ⊥) → z ≡ (f x && f y) → z ≡ every f l
+    unfolding every if_then_else_
+    every-two h k g = rw (← e, take-two n h k) (go (f x) (f y) g)
+      where
+        go : (b c : Bool) → z ≡ (b && c) → z ≡ pick b (pick c true false) false
+        go true true q = q
+        go true false q = q
+        go false c q = q
+
+-- ---- test 4
+
+-- bytes that it lets pass are no more than a rule's most
+pub good-size : (l : ℕ) {b : Bool} → b ≡ badRuleSize l → b ≡ false → l ≤ ruleBytes
+unfolding badRuleSize
+good-size l e h = go (eqb l 0) (ltb ruleBytes l) _ refl (sym e ∙ h)
+  where
+    go : (x y z : Bool) → ltb ruleBytes l ≡ y → (x || (y || z)) ≡ false → l ≤ ruleBytes
+    go x false z q g = ltb-false ruleBytes l q
+    go true true z q g = absurd (true≢false g)
+    go false true z q g = absurd (true≢false g)
+
+-- ---- a pass over the records
+
+-- what holds of each number before i, and of i, holds of each before i + 1
+pub last : (P : ℕ → Type 0) (i : ℕ) → ((k : ℕ) → k < i → P k) → P i → (k : ℕ) → k < i + 1 → P k
+last P i f p k h = go (eqb k i) refl
+  where
+    go : (b : Bool) → eqb k i ≡ b → P k
+    go true q = rw (eqb-true k i q) p
+    go false q = f k (omega (arith, eqb-false k i q))
+
+module _ (f : ℕ → Bool) where
+  pub up-start : upTo 0 f ≡ true
+  unfolding upTo
+  up-start = refl
+
+  pub up-next : (i : ℕ) → upTo i f ≡ true → f i ≡ true → upTo (i + 1) f ≡ true
+  unfolding upTo if_then_else_
+  up-next i h g = rw (add-one, upTo, h, g)
+
+  up-more : (i k : ℕ) → f i ≡ false → upTo (suc k + i) f ≡ false
+  unfolding upTo if_then_else_
+  up-more i zero g = let e : suc zero + i ≡ suc i = omega arith in rw (e, upTo) (go (upTo i f))
+    where
+      go : (b : Bool) → pick b (f i) false ≡ false
+      go true = g
+      go false = refl
+  up-more i (suc k) g = let e : suc (suc k) + i ≡ suc (suc k + i) = omega arith in rw (e, upTo, up-more i k g)
+
+  -- it stops at the first that fails
+  pub up-stop : (i n : ℕ) → i < n → f i ≡ false → false ≡ upTo n f
+  up-stop i n h g = let e : n ≡ suc (n - suc i) + i = omega arith in rw e (sym (up-more i (n - suc i) g))
+
+  pub up-end : (i n : ℕ) → upTo i f ≡ true → i ≤ n → n ≤ i → true ≡ upTo n f
+  up-end i n h l k = let e : n ≡ i = omega arith in rw e (sym h)
+
+  pub up-make : (n : ℕ) → ((k : ℕ) → k < n → f k ≡ true) → upTo n f ≡ true
+  unfolding upTo if_then_else_
+  up-make zero h = refl
+  up-make (suc n) h = rw (up-make n (λ k l. h k (omega arith))) (h n (omega arith))
+
+  pub up-all : (n : ℕ) → upTo n f ≡ true → (k : ℕ) → k < n → f k ≡ true
+  unfolding upTo if_then_else_
+  up-all zero h k l = absurd (omega arith)
+  up-all (suc n) h k l = let b = pick-both (upTo n f) (f n) h in last (λ j. f j ≡ true) n (up-all n (b .0)) (b .1) k (omega arith)

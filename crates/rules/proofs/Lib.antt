@@ -1,0 +1,4 @@
+pub mod Follow
+pub mod Held
+pub mod Trees
+pub mod Bindings

@@ -1,0 +1,336 @@
+// What is a rule: the tests 4 to 7 of document 01, each of which goes once over the records. Nothing is evaluated
+// here, and nothing is kept. The one public function, `refusal`, takes any bytes and has no `requires`.
+use semantics::Record;
+use semantics::numbers::ABORT_RECORD;
+use semantics::numbers::BAD_PLACE;
+use semantics::numbers::BAD_RECORD;
+use semantics::numbers::BAD_TREE;
+use semantics::numbers::CALL_RECORD;
+use semantics::numbers::DATUM_RECORD;
+use semantics::numbers::ERROR_RECORD;
+use semantics::numbers::IF_RECORD;
+use semantics::numbers::INPUT_COUNT;
+use semantics::numbers::IS_PROCEDURE_CODE;
+use semantics::numbers::LET_RECORD;
+use semantics::numbers::OPERATOR_RECORD;
+use semantics::numbers::PROCEDURE_RECORD;
+use semantics::numbers::RECORD_LIMIT;
+use semantics::numbers::RULE_BYTES;
+use semantics::numbers::RULE_SIZE;
+use semantics::numbers::VARIABLE_RECORD;
+use semantics::numbers::WORD_DATUM;
+ghost use mathlib.Core.Path.{_≡_};
+ghost use mathlib.Core.List.{[], _∷_};
+ghost use Prim.Native.Nat.{_+_, _<_, _≤_, min};
+ghost use lib.Dec.{ltb};
+ghost use lib.ListN.{set, take};
+ghost use Rattle.semantics.specs.Numbers.{recordLimit};
+ghost use Rattle.semantics.specs.Records.{recordAt};
+ghost use Rattle.semantics.specs.Rules.{upTo, every, badRuleSize, usesOf, fieldOf, shapedOf, partsOf, insideOf, onceOf};
+ghost use Rattle.semantics.specs.Rules.{linkedOf, placesOf, toldOf, scopedOf, testsOf, ruleRefusalOf};
+ghost use Rattle.rules.specs.Passes.{partOf, childrenOf, OneMore, bumpedOf, markedOf};
+
+// The record at which a child stands, and how many bindings it has more than its parent.
+struct Child {
+    at: u16,
+    more: u16,
+}
+
+// The children of a record: the first `count` of two. What is past the count says nothing.
+struct Children {
+    count: u8,
+    first: Child,
+    second: Child,
+}
+
+// What `uses` answers where there is no such kind or op.
+const NO_SUCH: u8 = 4;
+
+// The length of a list that has a number for each record.
+const RECORDS: usize = RECORD_LIMIT as usize;
+
+// The number of the first test of 4 to 7 that refuses a rule; 0 where none does.
+pub fn refusal(rule: &[u8]) -> u8
+    ensures { λ r. ⌜ r ≡ ruleRefusalOf (now (rule .entry)) ⌝ }
+{
+    let l = rule.len();
+    if bad_size(l) {
+        return RULE_SIZE;
+    }
+    tests(rule, (l / 8) as u16)
+}
+
+// The same of the tests 5 to 7, for a rule of n records. Each goes over all records before the next begins.
+fn tests(rule: &[u8], n: u16) -> u8
+    requires { ⌜ n ≤ recordLimit ⌝ }
+    ensures { λ r. ⌜ r ≡ testsOf (now (rule .entry)) n ⌝ }
+{
+    if !shapes(rule, n) {
+        return BAD_RECORD;
+    }
+    if !tree(rule, n) {
+        return BAD_TREE;
+    }
+    if !scopes(rule, n) {
+        return BAD_PLACE;
+    }
+    0
+}
+
+// Test 4: there are no bytes, too many, or not whole records.
+fn bad_size(l: usize) -> bool
+    ensures { λ r. ⌜ r ≡ badRuleSize l ⌝ }
+{
+    if l == 0 {
+        return true;
+    }
+    RULE_BYTES < l || l % 8 != 0
+}
+
+// Test 5 lets the first n records pass.
+fn shapes(rule: &[u8], n: u16) -> bool
+    ensures { λ r. ⌜ r ≡ upTo n (λ i. shapedOf (recordAt (now (rule .entry)) i)) ⌝ }
+{
+    for i in 0..n {
+        if !shaped(records::record_at(rule, i)) {
+            return false;
+        }
+    }
+    true
+}
+
+// A record's kind and op are among those there are, and the fields that it does not use are zero.
+fn shaped(x: Record) -> bool
+    ensures { λ r. ⌜ r ≡ shapedOf x ⌝ }
+{
+    let u = uses(x);
+    if u == NO_SUCH {
+        return false;
+    }
+    if !field(u, 0, x.p) {
+        return false;
+    }
+    field(u, 1, x.q) && field(u, 2, x.r)
+}
+
+// Field i of a record that uses the first u: any value where it is used, and 0 where it is not.
+fn field(u: u8, i: u8, v: u16) -> bool
+    ensures { λ r. ⌜ r ≡ fieldOf u i v ⌝ }
+{
+    if i < u { true } else { v == 0 }
+}
+
+// How many of p, q and r, in this order, a record of its kind and op uses.
+fn uses(x: Record) -> u8
+    ensures { λ r. ⌜ r ≡ usesOf x ⌝ }
+{
+    let k = x.kind;
+    if k == DATUM_RECORD {
+        if x.op < WORD_DATUM {
+            return 0;
+        }
+        return if x.op == WORD_DATUM { 1 } else { NO_SUCH };
+    }
+    if k == OPERATOR_RECORD {
+        if IS_PROCEDURE_CODE < x.op {
+            return NO_SUCH;
+        }
+        let n = operators::operands(x.op);
+        return if n == 0 { NO_SUCH } else { n };
+    }
+    if x.op == 0 {
+        return match k {
+            VARIABLE_RECORD => 1,
+            PROCEDURE_RECORD => 1,
+            CALL_RECORD => 2,
+            LET_RECORD => 2,
+            IF_RECORD => 3,
+            ABORT_RECORD => 0,
+            ERROR_RECORD => 0,
+            _ => NO_SUCH,
+        };
+    }
+    NO_SUCH
+}
+
+// Test 6 lets the n records of a rule pass. Parents come first, so when the pass reaches a record, all that have
+// it for a child have marked it.
+fn tree(rule: &[u8], n: u16) -> bool
+    requires { ⌜ n ≤ recordLimit ⌝ }
+    ensures { λ r. ⌜ r ≡ upTo n (linkedOf (now (rule .entry)) n) ⌝ }
+{
+    let mut marks: [u8; RECORDS] = [0; RECORDS];
+    for i in 0..n {
+        let c = children_of(records::record_at(rule, i));
+        if !ordered(c, i, n) {
+            return false;
+        }
+        if !once(i, marks[i as usize]) {
+            return false;
+        }
+        mark(&mut marks, c);
+    }
+    true
+}
+
+// The children of a record: a procedure's body; both parts of a let; the branches of an if.
+fn children_of(x: Record) -> Children
+    ensures { λ r. ⌜ childrenOf r ≡ partsOf x ⌝ ∗ ⌜ OneMore r ⌝ }
+{
+    let none = Child { at: 0, more: 0 };
+    let k = x.kind;
+    match k {
+        PROCEDURE_RECORD => Children {
+            count: 1,
+            first: Child { at: x.p, more: 1 },
+            second: none,
+        },
+        LET_RECORD => Children {
+            count: 2,
+            first: Child { at: x.p, more: 0 },
+            second: Child { at: x.q, more: 1 },
+        },
+        IF_RECORD => Children {
+            count: 2,
+            first: Child { at: x.q, more: 0 },
+            second: Child { at: x.r, more: 0 },
+        },
+        _ => Children {
+            count: 0,
+            first: none,
+            second: none,
+        },
+    }
+}
+
+// The children of record i of n stand after it, and before the end.
+fn ordered(c: Children, i: u16, n: u16) -> bool
+    ensures { λ r. ⌜ r ≡ every (insideOf i n) (childrenOf c) ⌝ }
+{
+    let k = c.count;
+    if k == 0 {
+        return true;
+    }
+    if k == 1 {
+        return inside(i, n, c.first);
+    }
+    inside(i, n, c.first) && inside(i, n, c.second)
+}
+
+// A child's record is after i and before n.
+fn inside(i: u16, n: u16, c: Child) -> bool
+    ensures { λ r. ⌜ r ≡ insideOf i n (partOf c) ⌝ }
+{
+    i < c.at && c.at < n
+}
+
+// Record i, with its marks, is a child once; record 0 need not be.
+fn once(i: u16, marks: u8) -> bool
+    ensures { λ r. ⌜ r ≡ onceOf i marks ⌝ }
+{
+    if i == 0 { true } else { marks == 1 }
+}
+
+// A mark more for each child.
+fn mark(marks: &mut [u8], c: Children)
+    ensures { λ _. ⌜ now (marks .exit) ≡ markedOf (childrenOf c) (now (marks .entry)) ⌝ }
+{
+    let k = c.count;
+    if k == 0 {
+        return;
+    }
+    bump(marks, c.first.at);
+    if k == 1 {
+        return;
+    }
+    bump(marks, c.second.at);
+}
+
+// One mark more for a record, up to two: more are not told apart. Past the list's end nothing is marked.
+fn bump(marks: &mut [u8], at: u16)
+    ensures { λ _. ⌜ now (marks .exit) ≡ bumpedOf (now (marks .entry)) at ⌝ }
+{
+    let i = at as usize;
+    if i < marks.len() {
+        marks[i] = next(marks[i]);
+    }
+}
+
+// One more, up to two.
+fn next(x: u8) -> u8
+    ensures { λ r. ⌜ r ≡ min 2 (x + 1) ⌝ }
+{
+    if x == 0 { 1 } else { 2 }
+}
+
+// Test 7 lets the first n records pass. The list has each record's bindings once the pass reaches it, since each
+// record tells its children theirs; record 0 has none.
+fn scopes(rule: &[u8], n: u16) -> bool
+    requires { ⌜ n ≤ recordLimit ⌝ }
+    ensures { λ r. ⌜ r ≡ upTo n (scopedOf (now (rule .entry))) ⌝ }
+{
+    let mut bindings: [u16; RECORDS] = [0; RECORDS];
+    for i in 0..n {
+        let x = records::record_at(rule, i);
+        let d = bindings[i as usize];
+        if !placed(x, d + INPUT_COUNT) {
+            return false;
+        }
+        tell(&mut bindings, children_of(x), d);
+    }
+    true
+}
+
+// The places in a record are below a limit.
+fn placed(x: Record, limit: u16) -> bool
+    ensures { λ r. ⌜ r ≡ every (λ p. ltb p limit) (placesOf x) ⌝ }
+{
+    let k = places(x);
+    if k == 0 {
+        return true;
+    }
+    if k == 1 {
+        return x.p < limit;
+    }
+    x.p < limit && x.q < limit
+}
+
+// How many of p and q, in this order, are places. Codes that no operator has are taken for two operands.
+fn places(x: Record) -> u8
+    ensures { λ r. ⌜ take r (x .p ∷ x .q ∷ []) ≡ placesOf x ⌝ }
+{
+    let k = x.kind;
+    match k {
+        VARIABLE_RECORD => 1,
+        CALL_RECORD => 2,
+        OPERATOR_RECORD => if operators::operands(x.op) == 1 { 1 } else { 2 },
+        IF_RECORD => 1,
+        _ => 0,
+    }
+}
+
+// A record under d bindings tells its children theirs.
+fn tell(bindings: &mut [u16], c: Children, d: u16)
+    requires { ⌜ OneMore c ⌝ ∗ ⌜ d < recordLimit ⌝ }
+    ensures { λ _. ⌜ now (bindings .exit) ≡ toldOf d (childrenOf c) (now (bindings .entry)) ⌝ }
+{
+    let k = c.count;
+    if k == 0 {
+        return;
+    }
+    put(bindings, c.first.at, d + c.first.more);
+    if k == 1 {
+        return;
+    }
+    put(bindings, c.second.at, d + c.second.more);
+}
+
+// Stores a number in a list; past its end nothing.
+fn put(list: &mut [u16], at: u16, v: u16)
+    ensures { λ _. ⌜ now (list .exit) ≡ set (now (list .entry)) at v ⌝ }
+{
+    let i = at as usize;
+    if i < list.len() {
+        list[i] = v;
+    }
+}
