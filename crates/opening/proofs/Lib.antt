@@ -2,3 +2,4 @@ pub mod Laws
 pub mod Order
 pub mod Room
 pub mod Opened
+pub mod Begins

@@ -98,24 +98,34 @@ link-laid ts v e h (end k) = rw (h .is, k)
 link-laid ts v e h (bound k) = rw (h .is, binding-named k, or-true (eqb e noBinding))
 
 module _ (l : ℕ) where
-  from-roomy : (i : ℕ) (xs : List Input) (ts : List Term) → every inputTaken xs ≡ true → i + length xs ≤ inputCount → wellFormed 0 ts ≡ true
+  -- an input's term and, once the later ones are made, its binding
+  pub input-roomy : (i : ℕ) (x : Input) (xs : List Input) (ts : List Term) → inputTaken x ≡ true → i < inputCount → wellFormed 0 ts ≡ true
+      → length ts + (1 + (length xs + length xs + 1)) ≤ roomOf l → length ts + (1 + (length xs + length xs + 1)) ≤ roomOf mostTable
+      → ((us : List Term) → wellFormed 0 us ≡ true → length us ≤ length ts + 1
+      → Roomy (length xs + length xs) us Link (openFrom (i + 1) xs (codeSetting l) us) (openFrom (i + 1) xs (settingOf mostTable) us))
+      → Roomy (1 + (length xs + length xs + 1)) ts (Sort bindingTerm) (openFrom i (x ∷ xs) (codeSetting l) ts) (openFrom i (x ∷ xs) (settingOf mostTable) ts)
+  unfolding openFrom
+  input-roomy i x xs ts p n f r m later =
+      then-roomy l (makeOf (inputTerm i x)) (λ v. openFrom (i + 1) xs >>= λ e. makeOf (term bindingTerm 0 v e 0))
+      (make-roomy l ts (inputTerm i x) f (input-laid ts i x p n .is) (omega arith) (omega arith)) (λ us v g w b t.
+      then-roomy l (openFrom (i + 1) xs) (λ e. makeOf (term bindingTerm 0 v e 0)) (later us w b) (λ ws e u y c k.
+      binds (make-roomy l ws (term bindingTerm 0 v e 0) y (link-laid ws v e (value-grown u (input-value us v i x p t)) k) (omega arith) (omega arith))))
+    where
+      binds : {ws : List Term} {v e : ℕ} {y z : Got ℕ} → Roomy 1 ws (There (term bindingTerm 0 v e 0)) y z → Roomy 1 ws (Sort bindingTerm) y z
+      binds {v = v} {e} (roomy g w b q) = roomy g w b (there-sort bindingTerm (binding-sort v e) q)
+
+  pub from-roomy : (i : ℕ) (xs : List Input) (ts : List Term) → every inputTaken xs ≡ true → i + length xs ≤ inputCount → wellFormed 0 ts ≡ true
       → length ts + (length xs + length xs) ≤ roomOf l → length ts + (length xs + length xs) ≤ roomOf mostTable
       → Roomy (length xs + length xs) ts Link (openFrom i xs (codeSetting l) ts) (openFrom i xs (settingOf mostTable) ts)
   unfolding openFrom give every if_then_else_
   from-roomy i [] ts h n f r m = roomy still f (omega arith) (end refl)
   from-roomy i (x ∷ xs) ts h n f r m =
       by-test (inputTaken x) (every inputTaken xs) false h
-      (λ p q. widen (then-roomy l (makeOf (inputTerm i x)) (λ v. openFrom (i + 1) xs >>= λ e. makeOf (term bindingTerm 0 v e 0))
-      (make-roomy l ts (inputTerm i x) f (input-laid ts i x p (omega arith) .is) (omega arith) (omega arith)) (λ us v g w b t.
-      then-roomy l (openFrom (i + 1) xs) (λ e. makeOf (term bindingTerm 0 v e 0)) (from-roomy (i + 1) xs us q (omega arith) w (omega arith) (omega arith)) (λ ws e u y c k.
-      linked (make-roomy l ws (term bindingTerm 0 v e 0) y (link-laid ws v e (value-grown u (input-value us v i x p t)) k) (omega arith) (omega arith))))))
+      (λ p q. widen (input-roomy i x xs ts p (omega arith) f (omega arith) (omega arith) (λ us w b. from-roomy (i + 1) xs us q (omega arith) w (omega arith) (omega arith))))
       (λ p q. never q)
     where
-      widen : {y z : Got ℕ} → Roomy (1 + (length xs + length xs + 1)) ts Link y z → Roomy (length (x ∷ xs) + length (x ∷ xs)) ts Link y z
-      widen (roomy g w b q) = roomy g w (omega arith) q
-
-      linked : {ws : List Term} {v e : ℕ} {y z : Got ℕ} → Roomy 1 ws (There (term bindingTerm 0 v e 0)) y z → Roomy 1 ws Link y z
-      linked {v = v} {e} (roomy g w b q) = roomy g w b (bound (there-sort bindingTerm (binding-sort v e) q))
+      widen : {y z : Got ℕ} → Roomy (1 + (length xs + length xs + 1)) ts (Sort bindingTerm) y z → Roomy (length (x ∷ xs) + length (x ∷ xs)) ts Link y z
+      widen (roomy g w b q) = roomy g w (omega arith) (bound q)
 
   -- "Terms: false, true, inputs 0 to 15, then bindings"
   pub all-roomy : (xs : List Input) → every inputTaken xs ≡ true → length xs ≡ inputCount → 34 ≤ roomOf l

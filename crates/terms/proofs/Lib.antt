@@ -3,3 +3,4 @@ pub mod Put
 pub mod Steps
 pub mod Wiped
 pub mod Arrays
+pub mod Image

@@ -14,7 +14,7 @@ halves : (x : ℕ) → x % 256 + 256 * (x / 256) ≡ x
 halves x = omega arith
 
 module _ (s : List ℕ) (n : ℕ) (t : Term) (room : n * 8 + 8 ≤ length s) where
-  rest : List ℕ
+  abbrev pub rest : List ℕ
   rest = drop 8 (drop (n * 8) s)
 
   head-length : length (take (n * 8) s) ≡ n * 8
@@ -25,17 +25,17 @@ module _ (s : List ℕ) (n : ℕ) (t : Term) (room : n * 8 + 8 ≤ length s) whe
   put-length = simp (length-append, head-length, length-drop) (omega arith)
 
   pub put-below : (k : ℕ) → k < n * 8 → getD (put s n t) k 0 ≡ getD s k 0
-  unfolding put rest
+  unfolding put
   put-below k h = List·getD-append (take (n * 8) s) (bytesOf t ++ rest) 0 k (rw head-length h) ∙ getD-take (n * 8) s k 0 h
 
-  put-at : (j k : ℕ) → k ≡ n * 8 + j → getD (put s n t) k 0 ≡ getD (bytesOf t ++ rest) j 0
-  unfolding put rest
+  pub put-at : (j k : ℕ) → k ≡ n * 8 + j → getD (put s n t) k 0 ≡ getD (bytesOf t ++ rest) j 0
+  unfolding put
   put-at j k e =
       let u : k ≡ length (take (n * 8) s) + j = rw head-length e in
       ap (λ (i : ℕ). getD (take (n * 8) s ++ (bytesOf t ++ rest)) i 0) u ∙ getD-append-add (take (n * 8) s) (bytesOf t ++ rest) j 0
 
   pub put-past : (k : ℕ) → n * 8 + 8 ≤ k → getD (put s n t) k 0 ≡ getD s k 0
-  unfolding bytesOf rest
+  unfolding bytesOf
   put-past k h =
       let e : k ≡ n * 8 + (8 + (k - (n * 8 + 8))) = omega arith in
       let f : n * 8 + (8 + (k - (n * 8 + 8))) ≡ k = sym e in

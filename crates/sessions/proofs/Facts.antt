@@ -1,0 +1,142 @@
+-- What test 3 says of a session and a table: the table is one that steps are taken on, and the session names what it should. Assumes nothing.
+use mathlib.Core.Path.{_≡_, refl, sym, ap, _∙_}
+use mathlib.Core.Bool.{Bool, true, false, not, _&&_}
+use mathlib.Core.List.{List, [], _∷_}
+use Prim.Native.Nat.{ℕ, zero, suc, _+_, _-_, _*_, _/_, _%_, _<_, _≤_}
+use native.Mathlib.Omega.{arith}
+use lib.ListN.{length, getD, take, drop, length-drop, List·getD-eq-default}
+use lib.Seq.{getD-drop}
+use lib.Dec.{eqb, ltb, leb}
+use borrow.Author.Tests.{eqb-true, leb-true, ltb-true, ltb-false, lt-ltb}
+use Rattle.notation.specs.Notation.{pick, if_then_else_, if_equals_then_else_}
+use Rattle.semantics.specs.declared.Term.{Term}
+use Rattle.semantics.specs.declared.Input.{Input}
+use Rattle.semantics.specs.declared.Session.{Session}
+use Rattle.semantics.specs.Numbers.{truthTerm, procedureTerm, bindingTerm, recordLimit, mostTable, inputCount, ruleLimit, termLimit}
+use Rattle.semantics.specs.Records.{recordsIn}
+use Rattle.semantics.specs.Rules.{every}
+use Rattle.semantics.specs.Terms.{term, termsIn, sameOf, findOf, namesTruth, namesBinding, laidOut, wellFormed}
+use Rattle.semantics.specs.Opening.{badTableSize, inputTaken, opening}
+use Rattle.semantics.specs.Fits.{sameTerms, noFree, isZero, fitsOf}
+use Rattle.terms.proofs.Laws.{terms-length}
+use Rattle.typing.proofs.Grown.{Grown, still, more, grown-on, at-lower, at-newest, Sort, sort-grown, truth-at}
+use Rattle.typing.proofs.Formed.{never, both, by-test, There, same-true, formed-newest}
+use Rattle.typing.proofs.Steps.{Fit, there-grown}
+use Rattle.typing.proofs.States.{Stated}
+use Rattle.opening.proofs.Opened.{Sized, sized}
+use Rattle.opening.proofs.Begins.{constants, Begins, begins}
+
+same-terms : (ts us : List Term) → sameTerms ts us ≡ true → ts ≡ us
+unfolding sameTerms
+same-terms [] [] h = refl
+same-terms [] (u ∷ us) h = never h
+same-terms (t ∷ ts) [] h = never h
+same-terms (t ∷ ts) (u ∷ us) h = both (sameOf t u) (sameTerms ts us) h λ p q. cons (same-true t u p) (same-terms ts us q)
+  where
+    cons : {a b : Term} {l m : List Term} → a ≡ b → l ≡ m → _≡_ {A = List Term} (a ∷ l) (b ∷ m)
+    cons e f = rw (e, f)
+
+every-at : {A : Type 0} (f : A → Bool) (d : A) (xs : List A) (k : ℕ) → every f xs ≡ true → k < length xs → f (getD xs k d) ≡ true
+unfolding every if_then_else_
+every-at f d [] k h l = absurd (omega arith)
+every-at f d (x ∷ xs) zero h l = go (f x) refl h
+  where
+    go : (b : Bool) → f x ≡ b → pick b (every f xs) false ≡ true → f x ≡ true
+    go true e r = e
+    go false e r = never r
+every-at f d (x ∷ xs) (suc k) h l = every-at f d xs k (go (f x) h) (omega arith)
+  where
+    go : (b : Bool) → pick b (every f xs) false ≡ true → every f xs ≡ true
+    go true r = r
+    go false r = never r
+
+zero-at : (s : List ℕ) (n k : ℕ) → every isZero (drop n s) ≡ true → n ≤ k → getD s k 0 ≡ 0
+unfolding isZero
+zero-at s n k h l = go (ltb k (length s)) refl
+  where
+    go : (b : Bool) → ltb k (length s) ≡ b → getD s k 0 ≡ 0
+    go true e =
+        let i : k < length s = omega (arith, ltb-true k (length s) e) in
+        let j : k - n < length (drop n s) = rw (length-drop n s) (omega arith) in
+        let q : n + (k - n) ≡ k = omega arith in
+        ap (λ (m : ℕ). getD s m 0) (sym q) ∙ (sym (getD-drop n s (k - n) 0) ∙ eqb-true _ _ (every-at isZero 0 (drop n s) (k - n) h j))
+    go false e = List·getD-eq-default s 0 (omega (arith, ltb-false k (length s) e))
+
+terms-grown : (s : List ℕ) (n d m : ℕ) → m ≡ d + n → Grown (termsIn s n) (termsIn s m)
+unfolding termsIn
+terms-grown s n zero m e = let f : m ≡ n = omega arith in rw f still
+terms-grown s n (suc d) m e = let f : m ≡ suc (d + n) = omega arith in rw f (more (terms-grown s n d (d + n) refl))
+
+-- one rule more was accepted
+laid-later : (n : ℕ) (ts : List Term) (t : Term) → laidOut n ts t ≡ true → laidOut (n + 1) ts t ≡ true
+unfolding laidOut if_equals_then_else_
+laid-later n ts t h = go (eqb (t .kind) procedureTerm) refl
+  where
+    go : (b : Bool) → eqb (t .kind) procedureTerm ≡ b → laidOut (n + 1) ts t ≡ true
+    go true e =
+        let k : t .kind ≡ procedureTerm = eqb-true _ _ e in
+        by-test (eqb (t .op) 0) (ltb (t .a) recordLimit && (namesBinding ts (t .b) && ltb (t .c) n)) false (rw k at h)
+        (λ i j. both (ltb (t .a) recordLimit) (namesBinding ts (t .b) && ltb (t .c) n) j λ p q. both (namesBinding ts (t .b)) (ltb (t .c) n) q λ u v.
+        let w : t .c < n + 1 = omega (arith, ltb-true (t .c) n v) in rw (k, i, p, u, lt-ltb _ _ w))
+        (λ i j. never j)
+    go false e = rw e (rw e at h)
+
+formed-later : (n : ℕ) (ts : List Term) → wellFormed n ts ≡ true → wellFormed (n + 1) ts ≡ true
+unfolding wellFormed
+formed-later n [] h = refl
+formed-later n (t ∷ ts) h = formed-newest n t ts h λ p q r. rw (laid-later n ts t p, q, formed-later n ts r)
+
+pub record Fitting (x : Session) (s : List ℕ) : Type 0 where
+  pub size : Sized (length s)
+  pub fit : Fit (x .accepted + 1) (termsIn s (x .count))
+  pub state : Stated (termsIn s (x .count)) (x .state)
+  pub environment : Sort bindingTerm (termsIn s (x .count)) (opening (x .inputs) .environment)
+  pub room : x .count * 8 ≤ length s
+  pub tail : (k : ℕ) → x .count * 8 ≤ k → getD s k 0 ≡ 0
+  pub few : x .accepted ≤ ruleLimit
+
+-- sixteen inputs are some
+begins-all : (xs : List Input) → every inputTaken xs ≡ true → length xs ≡ inputCount → Begins xs
+begins-all [] h n = absurd (omega arith)
+begins-all (x ∷ xs) h n = begins x xs h n
+
+module _ (x : Session) (s : List ℕ) (n : length (x .inputs) ≡ inputCount) where
+  facts : Sized (length s) → every inputTaken (x .inputs) ≡ true → length (opening (x .inputs) .terms) ≤ x .count → x .count ≤ recordsIn s
+      → termsIn s (length (opening (x .inputs) .terms)) ≡ opening (x .inputs) .terms → wellFormed (x .accepted) (termsIn s (x .count)) ≡ true
+      → every isZero (drop (8 * x .count) s) ≡ true → Stated (termsIn s (x .count)) (x .state) → x .accepted ≤ ruleLimit → Fitting x s
+  facts z t a b o f w st l =
+      let g : Grown (opening (x .inputs) .terms) (termsIn s (x .count)) = grows in
+      let q = begins-all (x .inputs) t n in
+      let c : Grown constants (termsIn s (x .count)) = grown-on (q .base) g in
+      let y = z .most in
+      record {
+        size = z;
+        fit = record {
+          formed = formed-later (x .accepted) (termsIn s (x .count)) f;
+          no = there-grown c (record { low = omega arith; is = at-lower _ _ 0 (omega arith) ∙ at-newest _ [] });
+          yes = there-grown c (record { low = omega arith; is = at-newest _ _ });
+          short = rw (terms-length s (x .count)) (omega arith);
+        };
+        state = st;
+        environment = sort-grown g (q .environment);
+        room = omega arith;
+        tail = λ k i. zero-at s (8 * x .count) k w (omega arith);
+        few = l;
+      }
+    where
+      grows : Grown (opening (x .inputs) .terms) (termsIn s (x .count))
+      grows =
+          let m = length (opening (x .inputs) .terms) in
+          rw o at (terms-grown s m (x .count - m) (x .count) (omega arith))
+
+  pub fitting : fitsOf x s ≡ true → Fitting x s
+  unfolding fitsOf
+  fitting h =
+      both _ _ h λ z h. both _ _ h λ t h. both _ _ h λ a h. both _ _ h λ b h. both _ _ h λ o h.
+      both (every noFree (take (x .count - length (opening (x .inputs) .terms)) (termsIn s (x .count)))) _ h λ r h. both _ _ h λ f h. both _ _ h λ w h. both _ _ h λ u h. both _ _ h λ v l.
+      facts (sized (length s) (not-not _ z)) t (leb-true _ _ a) (leb-true _ _ b) (same-terms _ _ o) f w
+      (record { assumed = truth-at _ _ u; asserted = truth-at _ _ v }) (leb-true _ _ l)
+    where
+      not-not : (b : Bool) → not b ≡ true → b ≡ false
+      not-not true e = never e
+      not-not false e = refl
