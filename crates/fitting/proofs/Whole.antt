@@ -13,7 +13,7 @@ use Rattle.semantics.specs.Opening.{badTableSize, inputTaken, opening}
 use Rattle.semantics.specs.Fits.{fitsOf}
 use Rattle.terms.specs.Gives.{Gives, wiped}
 use Rattle.opening.specs.Openings.{openAll}
-use Rattle.opening.proofs.Opened.{terms}
+use Rattle.opening.proofs.Opened.{terms, environment}
 use Rattle.fitting.specs.Formed.{openingFits}
 
 zeros : _≡_ {A = List ℕ} (replicate 272 0) (wiped (replicate 272 0) 0)
@@ -41,3 +41,7 @@ module _ (x : Session) (s : List ℕ) {b : Bool} (eb : b ≡ badTableSize (lengt
 -- the opening's terms, made on 34 records of zeros
 pub fresh-terms : (xs : List Input) → length xs ≡ 16 → {r c e : ℕ} {y : List ℕ} → Gives (openAll xs) (replicate 272 0) 0 r c 0 e y → every inputTaken xs ≡ true → termsIn y c ≡ opening xs .terms
 fresh-terms xs n g t = terms xs (replicate 272 0) (replicate 272 0) zeros enough t n g
+
+-- and input 0's binding there
+pub fresh-environment : (xs : List Input) → length xs ≡ 16 → {r c e : ℕ} {y : List ℕ} → Gives (openAll xs) (replicate 272 0) 0 r c 0 e y → every inputTaken xs ≡ true → e ≡ opening xs .environment
+fresh-environment xs n g t = environment xs (replicate 272 0) (replicate 272 0) zeros enough t n g

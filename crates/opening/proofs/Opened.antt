@@ -47,15 +47,16 @@ unfolding wiped
 zeros s = rw (sub-zero (length s))
 
 -- the code answers, with these terms
-record Answered (r : ℕ) (ts us : List Term) : Type 0 where
+record Answered (r e a : ℕ) (ts us : List Term) : Type 0 where
   none : r ≡ 0
   same : ts ≡ us
+  number : e ≡ a
 
-answered : (r : ℕ) (ts us : List Term) (e a : ℕ) → shown r ts e 0 ≡ gave us a 0 → Answered r ts us
+answered : (r : ℕ) (ts us : List Term) (e a : ℕ) → shown r ts e 0 ≡ gave us a 0 → Answered r e a ts us
 answered r ts us e a h = go (eqb r 0) refl h
   where
-    go : (b : Bool) → eqb r 0 ≡ b → pick b (gave ts e 0) (refused r) ≡ gave us a 0 → Answered r ts us
-    go true p q = record { none = eqb-true r 0 p; same = cc }
+    go : (b : Bool) → eqb r 0 ≡ b → pick b (gave ts e 0) (refused r) ≡ gave us a 0 → Answered r e a ts us
+    go true p q = record { none = eqb-true r 0 p; same = cc; number = cc }
     go false p q = let w : _≡_ {A = ℕ} 0 1 = cc in absurd (omega arith)
 
 module _ (xs : List Input) (s w : List ℕ) (ew : w ≡ wiped s 0) (z : badTableSize (length s) ≡ false) (t : every inputTaken xs ≡ true) (n : length xs ≡ 16)
@@ -79,6 +80,17 @@ module _ (xs : List Input) (s w : List ℕ) (ew : w ≡ wiped s 0) (z : badTable
     where
       go : (x m : Got ℕ) → Roomy 34 [] Link x m → shown r (termsIn y c) e 0 ≡ x → termsIn y c ≡ openingFrom m .terms
       go x m (roomy {us = us} {a = a} _ _ _ _) h = answered r (termsIn y c) us e a h .same
+
+  pub environment : e ≡ opening xs .environment
+  unfolding opening termsIn
+  environment =
+      let q = sized (length s) z in
+      let a = q .least in let b = q .most in
+      rw (same-opening xs (settingOf mostTable) []) (go (openAll xs (codeSetting (length w)) []) (openAll xs (settingOf mostTable) [])
+      (all-roomy (length w) xs t n (rw size (omega arith))) (g .is))
+    where
+      go : (x m : Got ℕ) → Roomy 34 [] Link x m → shown r (termsIn y c) e 0 ≡ x → e ≡ openingFrom m .environment
+      go x m (roomy {us = us} {a = a} _ _ _ _) h = answered r (termsIn y c) us e a h .number
 
   pub opened : _≡_ {A = Opened × List ℕ} (record { refusal = 0; session = sessionOf xs c }, y) (openOf xs s)
   unfolding openOf if_then_else_ unless_then_else_ with

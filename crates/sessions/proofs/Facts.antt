@@ -88,6 +88,7 @@ formed-later n (t ∷ ts) h = formed-newest n t ts h λ p q r. rw (laid-later n 
 
 pub record Fitting (x : Session) (s : List ℕ) : Type 0 where
   pub size : Sized (length s)
+  pub taken : every inputTaken (x .inputs) ≡ true
   pub fit : Fit (x .accepted + 1) (termsIn s (x .count))
   pub state : Stated (termsIn s (x .count)) (x .state)
   pub environment : Sort bindingTerm (termsIn s (x .count)) (opening (x .inputs) .environment)
@@ -111,6 +112,7 @@ module _ (x : Session) (s : List ℕ) (n : length (x .inputs) ≡ inputCount) wh
       let y = z .most in
       record {
         size = z;
+        taken = t;
         fit = record {
           formed = formed-later (x .accepted) (termsIn s (x .count)) f;
           no = there-grown c (record { low = omega arith; is = at-lower _ _ 0 (omega arith) ∙ at-newest _ [] });

@@ -1,2 +1,4 @@
 pub mod Facts
 pub mod Ruled
+pub mod ByRules
+pub mod Order

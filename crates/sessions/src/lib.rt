@@ -1,1 +1,156 @@
-// sessions
+// Evaluating a rule in a session: the refusals 3 to 9 in their order, the halted session, then the evaluation. A
+// refusal leaves session and table as they were. No public function has a `requires`.
+use semantics::Answer;
+use semantics::Evaluated;
+use semantics::Input;
+use semantics::Result;
+use semantics::Session;
+use semantics::numbers;
+ghost use mathlib.Core.Bool.{true};
+ghost use mathlib.Core.Path.{_≡_};
+ghost use Prim.Native.Nat.{ℕ, _<_};
+ghost use mathlib.Core.List.{List};
+ghost use Rattle.semantics.specs.Rules.{ruleRefusalOf};
+ghost use Rattle.semantics.specs.Fits.{fitsOf};
+ghost use Rattle.semantics.specs.Answers.{answerOf};
+ghost use Rattle.semantics.specs.Evaluate.{advanced as «advanced-session», badDepth, haltedAgain, evaluated as «evaluated-by-rules», evaluateOf};
+ghost use Rattle.sessions.specs.Entered.{Enters};
+
+// The binding of input 0 on a table that begins with the opening of these inputs.
+fn environment(inputs: [Input; 16]) -> u16
+    ensures { λ r. ⌜ Enters inputs r ⌝ }
+{
+    let mut bytes: [u8; 272] = [0; 272];
+    let o = opening::open_all(&mut bytes, inputs);
+    o.number
+}
+
+fn bad_depth(allowance: u16) -> bool
+    ensures { λ r. ⌜ r ≡ badDepth allowance ⌝ }
+{
+    if allowance == 0 {
+        return true;
+    }
+    numbers::ALLOWANCE_LIMIT < allowance
+}
+
+// The session once a rule is accepted.
+fn advanced(session: Session, count: u16, result: Result) -> Session
+    requires { ⌜ session .accepted < 1000 ⌝ }
+    ensures { λ r. ⌜ r ≡ «advanced-session» session count result ⌝ }
+{
+    let inputs = session.inputs;
+    let state = result.state;
+    Session {
+        inputs: inputs,
+        count: count,
+        state: state,
+        halted: result.halted,
+        accepted: session.accepted + 1,
+    }
+}
+
+// The answer that an accepted rule's result and depth make.
+fn answer(result: Result, depth: u16) -> Answer
+    ensures { λ r. ⌜ r ≡ answerOf result depth ⌝ }
+{
+    let state = result.state;
+    if result.halted {
+        return Answer::Halt {
+            state: state,
+            depth: depth,
+        };
+    }
+    Answer::Out {
+        state: state,
+        value: result.value,
+        depth: depth,
+    }
+}
+
+// The evaluation by the rules, from record 0. What a refused one wrote behind the count is zeroed.
+fn evaluated(session: Session, table: &mut [u8], rule: &[u8], allowance: u16) -> Evaluated
+    requires { ⌜ (fitsOf session (now table) ≡ true) × (ruleRefusalOf (now rule) ≡ 0) × (session .accepted < 1000) ⌝ }
+    ensures { λ r. ⌜ (r, now (table .exit)) ≡ «evaluated-by-rules» (now (rule .entry)) allowance session (now (table .entry)) ⌝ }
+{
+    let inputs = session.inputs;
+    let env = environment(inputs);
+    let state = session.state;
+    let o = evaluator::eval(
+        table,
+        rule,
+        allowance,
+        0,
+        env,
+        state,
+        session.count,
+        session.accepted,
+    );
+    if o.refusal != 0 {
+        terms::wipe(table, (session.count as usize) * 8);
+        return Evaluated {
+            answer: Answer::Refused(o.refusal),
+            session: session,
+        };
+    }
+    let result = o.result;
+    Evaluated {
+        answer: answer(result, o.used),
+        session: advanced(session, o.count, result),
+    }
+}
+
+// A rule, at an allowance, in a session over a lent table: the answer and the session then.
+pub fn evaluate(session: Session, table: &mut [u8], rule: &[u8], allowance: u16) -> Evaluated
+    ensures { λ r. ⌜ (r, now (table .exit)) ≡ evaluateOf (now (rule .entry)) allowance session (now (table .entry)) ⌝ }
+{
+    if fitting::fits(session, table) {} else {
+        return Evaluated {
+            answer: Answer::Refused(numbers::MISFIT),
+            session: session,
+        };
+    }
+    let k = rules::refusal(rule);
+    if 0 < k {
+        return Evaluated {
+            answer: Answer::Refused(k),
+            session: session,
+        };
+    }
+    if bad_depth(allowance) {
+        return Evaluated {
+            answer: Answer::Refused(numbers::BAD_ALLOWANCE),
+            session: session,
+        };
+    }
+    if numbers::RULE_LIMIT <= session.accepted {
+        return Evaluated {
+            answer: Answer::Refused(numbers::RULES_SPENT),
+            session: session,
+        };
+    }
+    if session.halted {
+        return halted_again(session);
+    }
+    evaluated(session, table, rule, allowance)
+}
+
+// The same halt, and one rule more.
+fn halted_again(session: Session) -> Evaluated
+    requires { ⌜ session .accepted < 1000 ⌝ }
+    ensures { λ r. ⌜ ((s : List ℕ) → (r, s) ≡ haltedAgain session s) ⌝ }
+{
+    let state = session.state;
+    let halt = Result {
+        state: state,
+        value: 0,
+        halted: true,
+    };
+    Evaluated {
+        answer: Answer::Halt {
+            state: state,
+            depth: 1,
+        },
+        session: advanced(session, session.count, halt),
+    }
+}

@@ -1,0 +1,19 @@
+-- `expressions::abort` meets its contract: it follows the text of its definition. Assumes nothing.
+use borrow.Author.Needs.{needs}
+use Rattle.terms.proofs.Steps.{steps}
+use Rattle.semantics.specs.Evaluation.{abortOf}
+use Rattle.expressions.proofs.abort.Statement.{statement}
+use Rattle.expressions.proofs.abort.Tie as tie
+
+assume-requires : tie.Need-assume-requires
+assume-requires c κs = search needs
+
+same-length : tie.Need-same-length
+same-length c = search needs
+
+returns : tie.Need-returns
+unfolding abortOf
+returns c = record { gives = search steps depth 12; low = search needs }
+
+pub abort-spec : {M : Type 1} → statement M
+abort-spec = tie.close (tie.spec assume-requires same-length returns)

@@ -1,0 +1,15 @@
+-- Where a rule starts. Assumes nothing.
+use mathlib.Core.Path.{_≡_}
+use mathlib.Core.Bool.{true}
+use mathlib.Core.List.{List}
+use Prim.Native.Nat.{ℕ}
+use lib.ListN.{length}
+use Rattle.semantics.specs.declared.Input.{Input}
+use Rattle.semantics.specs.Numbers.{inputCount}
+use Rattle.semantics.specs.Rules.{every}
+use Rattle.semantics.specs.Opening.{inputTaken, opening}
+
+-- sixteen inputs that opening takes, and the number of input 0's binding
+pub record Enters (xs : List Input) (e : ℕ) : Type 0 where
+  pub sixteen : length xs ≡ inputCount
+  pub is : every inputTaken xs ≡ true → e ≡ opening xs .environment

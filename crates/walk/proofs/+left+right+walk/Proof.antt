@@ -1,0 +1,240 @@
+-- The walk: `walk::walk` and its two sides `left` and `right` meet their contracts, following the text of their definitions. The measure is the fuel,
+-- twice over, and one more on the way into a side. Assumes nothing.
+use borrow.Author.Needs.{needs}
+use Prim.Native.Nat.{ℕ, _+_, _*_, _<_}
+use Rattle.semantics.specs.Walk.{leftSideOf, rightSideOf, sideOf, sidesOf, nodeOf}
+use Rattle.terms.proofs.Steps.{steps}
+use Rattle.walk.proofs.Laws.{walks}
+use borrow.Fn.Kinds.{In}
+use borrow.Fn.PlainCycle.{Measures, is, falls, and}
+use Rattle.walk.proofs.left.Reads as left
+use Rattle.walk.proofs.left.Kinds as left-kinds
+use Rattle.walk.proofs.+left+right+walk.Lts-left as left-lts
+use Rattle.walk.proofs.right.Reads as right
+use Rattle.walk.proofs.right.Kinds as right-kinds
+use Rattle.walk.proofs.+left+right+walk.Lts-right as right-lts
+use Rattle.walk.proofs.walk.Reads as walk
+use Rattle.walk.proofs.walk.Kinds as walk-kinds
+use Rattle.walk.proofs.+left+right+walk.Lts-walk as walk-lts
+use Rattle.factory.proofs.and_of.Reads as and-of-reads
+use Rattle.factory.proofs.not_of.Reads as not-of-reads
+use Rattle.terms.proofs.known.Reads as known-reads
+use Rattle.terms.proofs.term.Reads as term-reads
+use Rattle.walk.proofs.leaf.Reads as leaf-reads
+use Rattle.walk.proofs.+left+right+walk.{statement}
+use Rattle.walk.proofs.+left+right+walk.Tie.{close}
+
+abbrev μ-left : Measures 2 left-kinds.ps ℕ
+μ-left κs a = 2 * a .1 .1 .1 .0 + 1
+
+abbrev μ-right : Measures 2 right-kinds.ps ℕ
+μ-right κs a = 2 * a .1 .1 .1 .0 + 1
+
+abbrev μ-walk : Measures 2 walk-kinds.ps ℕ
+μ-walk κs a = 2 * a .1 .1 .1 .0
+
+abbrev left-at : ℕ → In 2 left-kinds.ps
+left-at t = and 2 left-kinds.ps (is 2 left-kinds.ps μ-left t) left.Pre
+
+abbrev left-below : ℕ → In 2 left-kinds.ps
+left-below t = and 2 left-kinds.ps (falls 2 left-kinds.ps _<_ μ-left t) left.Pre
+
+abbrev right-at : ℕ → In 2 right-kinds.ps
+right-at t = and 2 right-kinds.ps (is 2 right-kinds.ps μ-right t) right.Pre
+
+abbrev right-below : ℕ → In 2 right-kinds.ps
+right-below t = and 2 right-kinds.ps (falls 2 right-kinds.ps _<_ μ-right t) right.Pre
+
+abbrev walk-at : ℕ → In 2 walk-kinds.ps
+walk-at t = and 2 walk-kinds.ps (is 2 walk-kinds.ps μ-walk t) walk.Pre
+
+abbrev walk-below : ℕ → In 2 walk-kinds.ps
+walk-below t = and 2 walk-kinds.ps (falls 2 walk-kinds.ps _<_ μ-walk t) walk.Pre
+
+-- what each function may use of those that it calls
+abbrev left-claims : ℕ → left-lts.Claims
+left-claims t = (and-of-reads.Asked, and-of-reads.Learnt, known-reads.Asked, known-reads.Learnt, walk-below t, walk.Post)
+
+abbrev right-claims : ℕ → right-lts.Claims
+right-claims t = (not-of-reads.Asked, not-of-reads.Learnt, and-of-reads.Asked, and-of-reads.Learnt, known-reads.Asked, known-reads.Learnt, walk-below t, walk.Post)
+
+abbrev walk-claims : ℕ → walk-lts.Claims
+walk-claims t = (term-reads.Asked, term-reads.Learnt, left-below t, left.Post, right-below t, right.Post, leaf-reads.Asked, leaf-reads.Learnt)
+
+left-and-of-requires : (t : ℕ) → left-lts.Need-and-of-requires (left-claims t) (left-at t) left.Post
+left-and-of-requires t c κs = search needs
+
+left-same-length : (t : ℕ) → left-lts.Need-same-length (left-claims t) (left-at t) left.Post
+left-same-length t c = search needs
+
+left-returns : (t : ℕ) → left-lts.Need-returns (left-claims t) (left-at t) left.Post
+unfolding leftSideOf sideOf
+left-returns t c = record { gives = search steps depth 12; few = search needs }
+
+left-known-requires : (t : ℕ) → left-lts.Need-known-requires (left-claims t) (left-at t) left.Post
+left-known-requires t c κs = search needs
+
+left-same-length-2 : (t : ℕ) → left-lts.Need-same-length-2 (left-claims t) (left-at t) left.Post
+left-same-length-2 t c = search needs
+
+left-returns-2 : (t : ℕ) → left-lts.Need-returns-2 (left-claims t) (left-at t) left.Post
+unfolding leftSideOf sideOf
+left-returns-2 t c = record { gives = search steps depth 12; few = search needs }
+
+left-walk-requires : (t : ℕ) → left-lts.Need-walk-requires (left-claims t) (left-at t) left.Post
+left-walk-requires t c κs = search needs
+
+left-same-length-3 : (t : ℕ) → left-lts.Need-same-length-3 (left-claims t) (left-at t) left.Post
+left-same-length-3 t c = search needs
+
+left-same-length-4 : (t : ℕ) → left-lts.Need-same-length-4 (left-claims t) (left-at t) left.Post
+left-same-length-4 t c = search needs
+
+left-returns-3 : (t : ℕ) → left-lts.Need-returns-3 (left-claims t) (left-at t) left.Post
+unfolding leftSideOf sideOf
+left-returns-3 t c = record { gives = search steps depth 12; few = search needs }
+
+right-not-of-requires : (t : ℕ) → right-lts.Need-not-of-requires (right-claims t) (right-at t) right.Post
+right-not-of-requires t c κs = search needs
+
+right-same-length : (t : ℕ) → right-lts.Need-same-length (right-claims t) (right-at t) right.Post
+right-same-length t c = search needs
+
+right-returns : (t : ℕ) → right-lts.Need-returns (right-claims t) (right-at t) right.Post
+unfolding rightSideOf sideOf
+right-returns t c = record { gives = search steps depth 12; few = search needs }
+
+right-and-of-requires : (t : ℕ) → right-lts.Need-and-of-requires (right-claims t) (right-at t) right.Post
+right-and-of-requires t c κs = search needs
+
+right-same-length-2 : (t : ℕ) → right-lts.Need-same-length-2 (right-claims t) (right-at t) right.Post
+right-same-length-2 t c = search needs
+
+right-returns-2 : (t : ℕ) → right-lts.Need-returns-2 (right-claims t) (right-at t) right.Post
+unfolding rightSideOf sideOf
+right-returns-2 t c = record { gives = search steps depth 12; few = search needs }
+
+right-known-requires : (t : ℕ) → right-lts.Need-known-requires (right-claims t) (right-at t) right.Post
+right-known-requires t c κs = search needs
+
+right-same-length-3 : (t : ℕ) → right-lts.Need-same-length-3 (right-claims t) (right-at t) right.Post
+right-same-length-3 t c = search needs
+
+right-returns-3 : (t : ℕ) → right-lts.Need-returns-3 (right-claims t) (right-at t) right.Post
+unfolding rightSideOf sideOf
+right-returns-3 t c = record { gives = search steps depth 12; few = search needs }
+
+right-walk-requires : (t : ℕ) → right-lts.Need-walk-requires (right-claims t) (right-at t) right.Post
+right-walk-requires t c κs = search needs
+
+right-same-length-4 : (t : ℕ) → right-lts.Need-same-length-4 (right-claims t) (right-at t) right.Post
+right-same-length-4 t c = search needs
+
+right-same-length-5 : (t : ℕ) → right-lts.Need-same-length-5 (right-claims t) (right-at t) right.Post
+right-same-length-5 t c = search needs
+
+right-returns-4 : (t : ℕ) → right-lts.Need-returns-4 (right-claims t) (right-at t) right.Post
+unfolding rightSideOf sideOf
+right-returns-4 t c = record { gives = search steps depth 12; few = search needs }
+
+walk-returns : (t : ℕ) → walk-lts.Need-returns (walk-claims t) (walk-at t) walk.Post
+unfolding nodeOf sidesOf
+walk-returns t c = record { gives = search walks depth 12; few = search needs }
+
+walk-term-requires : (t : ℕ) → walk-lts.Need-term-requires (walk-claims t) (walk-at t) walk.Post
+walk-term-requires t c κs = search needs
+
+walk-sub-left : (t : ℕ) → walk-lts.Need-sub-left (walk-claims t) (walk-at t) walk.Post
+walk-sub-left t c = search needs
+
+walk-left-requires : (t : ℕ) → walk-lts.Need-left-requires (walk-claims t) (walk-at t) walk.Post
+walk-left-requires t c κs = search needs
+
+walk-same-length : (t : ℕ) → walk-lts.Need-same-length (walk-claims t) (walk-at t) walk.Post
+walk-same-length t c = search needs
+
+walk-same-length-2 : (t : ℕ) → walk-lts.Need-same-length-2 (walk-claims t) (walk-at t) walk.Post
+walk-same-length-2 t c = search needs
+
+walk-returns-2 : (t : ℕ) → walk-lts.Need-returns-2 (walk-claims t) (walk-at t) walk.Post
+unfolding nodeOf sidesOf
+walk-returns-2 t c = record { gives = search walks depth 12; few = search needs }
+
+walk-sub-right : (t : ℕ) → walk-lts.Need-sub-right (walk-claims t) (walk-at t) walk.Post
+walk-sub-right t c = search needs
+
+walk-right-requires : (t : ℕ) → walk-lts.Need-right-requires (walk-claims t) (walk-at t) walk.Post
+walk-right-requires t c κs = search needs
+
+walk-same-length-3 : (t : ℕ) → walk-lts.Need-same-length-3 (walk-claims t) (walk-at t) walk.Post
+walk-same-length-3 t c = search needs
+
+walk-same-length-4 : (t : ℕ) → walk-lts.Need-same-length-4 (walk-claims t) (walk-at t) walk.Post
+walk-same-length-4 t c = search needs
+
+walk-returns-3 : (t : ℕ) → walk-lts.Need-returns-3 (walk-claims t) (walk-at t) walk.Post
+unfolding nodeOf sidesOf
+walk-returns-3 t c = record { gives = search walks depth 12; few = search needs }
+
+walk-leaf-requires : (t : ℕ) → walk-lts.Need-leaf-requires (walk-claims t) (walk-at t) walk.Post
+walk-leaf-requires t c κs = search needs
+
+walk-same-length-5 : (t : ℕ) → walk-lts.Need-same-length-5 (walk-claims t) (walk-at t) walk.Post
+walk-same-length-5 t c = search needs
+
+walk-same-length-6 : (t : ℕ) → walk-lts.Need-same-length-6 (walk-claims t) (walk-at t) walk.Post
+walk-same-length-6 t c = search needs
+
+walk-returns-4 : (t : ℕ) → walk-lts.Need-returns-4 (walk-claims t) (walk-at t) walk.Post
+unfolding nodeOf sidesOf
+walk-returns-4 t c = record { gives = search walks depth 12; few = search needs }
+
+pub +left+right+walk-spec : {M : Type 1} → statement M
++left+right+walk-spec = close μ-left μ-right μ-walk (λ t. left-lts.spec (left-claims t)
+    (left-at t)
+    left.Post
+    (left-and-of-requires t)
+    (left-same-length t)
+    (left-returns t)
+    (left-known-requires t)
+    (left-same-length-2 t)
+    (left-returns-2 t)
+    (left-walk-requires t)
+    (left-same-length-3 t)
+    (left-same-length-4 t)
+    (left-returns-3 t))
+    (λ t. right-lts.spec (right-claims t)
+    (right-at t)
+    right.Post
+    (right-not-of-requires t)
+    (right-same-length t)
+    (right-returns t)
+    (right-and-of-requires t)
+    (right-same-length-2 t)
+    (right-returns-2 t)
+    (right-known-requires t)
+    (right-same-length-3 t)
+    (right-returns-3 t)
+    (right-walk-requires t)
+    (right-same-length-4 t)
+    (right-same-length-5 t)
+    (right-returns-4 t))
+    λ t. walk-lts.spec (walk-claims t)
+    (walk-at t)
+    walk.Post
+    (walk-returns t)
+    (walk-term-requires t)
+    (walk-sub-left t)
+    (walk-left-requires t)
+    (walk-same-length t)
+    (walk-same-length-2 t)
+    (walk-returns-2 t)
+    (walk-sub-right t)
+    (walk-right-requires t)
+    (walk-same-length-3 t)
+    (walk-same-length-4 t)
+    (walk-returns-3 t)
+    (walk-leaf-requires t)
+    (walk-same-length-5 t)
+    (walk-same-length-6 t)
+    (walk-returns-4 t)

@@ -1,0 +1,68 @@
+-- `walk::any_target` meets its contract. The invariant: what is left of the or, from leaf i on, leads from the start. The measure is what is
+-- left. Assumes nothing.
+use borrow.Author.Needs.{needs}
+use mathlib.Core.Path.{_≡_}
+use Prim.Native.Nat.{_-_}
+use lib.ListN.{length}
+use native.Mathlib.Nat.{sub-zero}
+use Rattle.semantics.specs.Steps.{each}
+use Rattle.semantics.specs.Numbers.{falseNumber}
+use Rattle.semantics.specs.Walk.{orTargetOf}
+use Rattle.terms.specs.Gives.{from, Leads}
+use Rattle.terms.proofs.Steps.{leads-start, each-end, each-stop, each-next}
+use Rattle.walk.specs.Leaves.{noLeaf}
+use Rattle.walk.proofs.any_target.Statement.{statement}
+use Rattle.walk.proofs.any_target.Tie as tie
+
+abbrev Inv-loop : tie.InvT-loop
+Inv-loop table₀ count leaves n g₀ c₀ i₀ table g c i = (length table ≡ length table₀) × Leads (each orTargetOf falseNumber (from noLeaf leaves 0 n)) table₀ c₀ 0 (each orTargetOf g (from noLeaf leaves i (n - i))) table c
+
+abbrev μ-loop : tie.MeasureT-loop
+μ-loop table₀ count leaves n g₀ c₀ i₀ table g c i = n - i
+
+loop-holds : tie.Need-loop-holds Inv-loop μ-loop
+loop-holds c = (search needs, rw sub-zero (leads-start _ _ _))
+
+leaf-of-requires : tie.Need-leaf-of-requires Inv-loop μ-loop
+leaf-of-requires c κs = search needs
+
+or-target-requires : tie.Need-or-target-requires Inv-loop μ-loop
+or-target-requires c κs = search needs
+
+same-length : tie.Need-same-length Inv-loop μ-loop
+same-length c = search needs
+
+returns : tie.Need-returns Inv-loop μ-loop
+returns c = search each-stop
+
+add-i : tie.Need-add-i Inv-loop μ-loop
+add-i c = search needs
+
+loop-less : tie.Need-loop-less Inv-loop μ-loop
+loop-less c = search needs
+
+loop-again : tie.Need-loop-again Inv-loop μ-loop
+loop-again c = (search needs, search each-next)
+
+same-length-2 : tie.Need-same-length-2 Inv-loop μ-loop
+same-length-2 c = search needs
+
+returns-2 : tie.Need-returns-2 Inv-loop μ-loop
+returns-2 c = search each-end
+
+pub any-target-spec : {M : Type 1} → statement M
+any-target-spec =
+    tie.close
+    (tie.spec
+    Inv-loop
+    μ-loop
+    loop-holds
+    leaf-of-requires
+    or-target-requires
+    same-length
+    returns
+    add-i
+    loop-less
+    loop-again
+    same-length-2
+    returns-2)
