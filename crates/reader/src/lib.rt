@@ -107,7 +107,7 @@ pub fn read_result(
 }
 
 // Every place is zero then.
-fn wipe(work: &mut [u32])
+pub fn wipe(work: &mut [u32])
     ensures { λ _. ⌜ now (work .exit) ≡ replicate (length (now (work .entry))) 0 ⌝ }
 {
     let mut k: usize = 0;
