@@ -16,6 +16,7 @@ use semantics::Result;
 use semantics::Session;
 use semantics::State;
 use semantics::numbers;
+ghost use lib.ListN.{length, replicate};
 ghost use mathlib.Core.Path.{_≡_};
 ghost use Rattle.semantics.specs.Rules.{ruleRefusalOf};
 
@@ -326,7 +327,9 @@ pub extern "C" fn desk_read(
     result: &[u8],
     work: &mut [u32],
     reading: &mut [u8],
-) -> u8 {
+) -> u8
+    ensures { λ _. ⌜ now (work .exit) ≡ replicate (length (now (work .entry))) 0 ⌝ }
+{
     let k = read_unformed(session, numbers, result, reading.len());
     if k != 0 {
         reader::wipe(work);
@@ -365,7 +368,9 @@ pub extern "C" fn desk_run(
     allowance: u16,
     store: &mut [u8],
     reading: &mut [u8],
-) -> u8 {
+) -> u8
+    ensures { λ _. ⌜ now (store .exit) ≡ replicate (length (now (store .entry))) 0 ⌝ }
+{
     let k = run_unformed(inputs, numbers, reading.len());
     if k != 0 {
         terms::wipe(store, 0);

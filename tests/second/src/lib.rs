@@ -10,6 +10,7 @@ mod run;
 mod session;
 mod state;
 mod terms;
+pub mod text;
 mod words;
 
 pub use evaluate::{evaluate, Answer};

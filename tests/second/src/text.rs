@@ -1,0 +1,27 @@
+//! How the vector files write inputs, numbers and bytes.
+
+use crate::session::Input;
+
+pub fn input(field: &str) -> Option<Input> {
+    let (kind, value) = field.split_once(':')?;
+    Some(Input {
+        kind: kind.parse().ok()?,
+        value: value.parse().ok()?,
+    })
+}
+
+pub fn sixteen<T>(fields: &[&str], parse: impl Fn(&str) -> Option<T>) -> Option<[T; 16]> {
+    let parsed: Option<Vec<T>> = fields.iter().map(|field| parse(field)).collect();
+    parsed?.try_into().ok()
+}
+
+pub fn hex(text: &str) -> Option<Vec<u8>> {
+    let byte = |pair: &[u8]| {
+        let digits = std::str::from_utf8(pair).ok()?;
+        u8::from_str_radix(digits, 16).ok()
+    };
+    if !text.len().is_multiple_of(2) {
+        return None;
+    }
+    text.as_bytes().chunks_exact(2).map(byte).collect()
+}

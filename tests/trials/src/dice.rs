@@ -1,0 +1,143 @@
+//! Rules, inputs and numbers at random, from a fixed seed.
+
+use second::{Input, Record};
+
+pub fn record(kind: u8, op: u8, a: u16, b: u16, c: u16) -> Record {
+    Record { kind, op, a, b, c }
+}
+
+pub fn rule(records: &[Record]) -> Vec<u8> {
+    records
+        .iter()
+        .flat_map(|record| record.to_bytes())
+        .collect()
+}
+
+/// Xorshift; the seed must not be zero.
+pub struct Dice(pub u64);
+
+impl Dice {
+    fn next(&mut self) -> u64 {
+        self.0 ^= self.0 << 13;
+        self.0 ^= self.0 >> 7;
+        self.0 ^= self.0 << 17;
+        self.0
+    }
+
+    pub fn below(&mut self, bound: u64) -> u64 {
+        (self.next() >> 11) % bound
+    }
+
+    pub fn pick<T: Copy>(&mut self, items: &[T]) -> T {
+        items[self.below(items.len() as u64) as usize]
+    }
+
+    pub fn word(&mut self) -> u16 {
+        match self.below(3) {
+            0 => self.below(65_536) as u16,
+            _ => self.pick(&[0, 1, 2, 3, 15, 16, 17, 32_768, 65_535]),
+        }
+    }
+
+    fn input(&mut self) -> Input {
+        match self.below(4) {
+            0 => Input {
+                kind: 0,
+                value: self.below(2) as u16,
+            },
+            1 => Input {
+                kind: 1,
+                value: self.word(),
+            },
+            2 => Input { kind: 2, value: 0 },
+            _ => Input { kind: 3, value: 0 },
+        }
+    }
+
+    /// Inputs that opening takes.
+    pub fn inputs(&mut self) -> [Input; 16] {
+        std::array::from_fn(|_| self.input())
+    }
+
+    /// Inputs of which a few are not taken.
+    pub fn any_inputs(&mut self) -> [Input; 16] {
+        let mut inputs = self.inputs();
+        if self.below(4) == 0 {
+            let at = self.below(16) as usize;
+            inputs[at] = Input {
+                kind: self.below(6) as u8,
+                value: self.word(),
+            };
+        }
+        inputs
+    }
+
+    /// Numbers for inputs; for a few of the free truths one over 1.
+    pub fn numbers(&mut self, inputs: &[Input; 16]) -> [u16; 16] {
+        let odd = self.below(10) == 0;
+        std::array::from_fn(|i| match inputs[i].kind {
+            2 => self.below(if odd { 3 } else { 2 }) as u16,
+            _ => self.word(),
+        })
+    }
+
+    fn place(&mut self, bindings: u16) -> u16 {
+        match self.below(4) {
+            0 => self.below(u64::from(bindings) + 16) as u16,
+            _ => self.below(u64::from(bindings).min(3) + 2) as u16,
+        }
+    }
+
+    /// A rule that passes tests 4 to 7.
+    pub fn rule(&mut self, size: u64) -> Vec<u8> {
+        let mut records = Vec::new();
+        self.grow(&mut records, 0, size);
+        rule(&records)
+    }
+
+    fn grow(&mut self, records: &mut Vec<Record>, bindings: u16, size: u64) -> u16 {
+        let number = records.len();
+        let (p, q) = (self.place(bindings), self.place(bindings));
+        records.push(record(2, 0, p, 0, 0));
+        let grown = match self.below(if size > 1 { 14 } else { 6 }) {
+            0 => record(1, self.below(2) as u8, 0, 0, 0),
+            1 => record(1, 2, self.word(), 0, 0),
+            2 => record(2, 0, p, 0, 0),
+            3 => self.operator(p, q),
+            4 => record(4, 0, p, q, 0),
+            5 if self.below(4) == 0 => record(8 + self.below(2) as u8, 0, 0, 0, 0),
+            5 => self.operator(p, q),
+            6 | 7 => record(3, 0, self.grow(records, bindings + 1, size - 1), 0, 0),
+            8..=10 => {
+                let half = self.below(size) + 1;
+                let first = self.grow(records, bindings, half.min(size - 1));
+                let second = self.grow(records, bindings + 1, size - 1);
+                record(6, 0, first, second, 0)
+            }
+            _ => {
+                let then = self.grow(records, bindings, size / 2);
+                let other = self.grow(records, bindings, size / 2);
+                record(7, 0, p, then, other)
+            }
+        };
+        records[number] = grown;
+        number as u16
+    }
+
+    fn operator(&mut self, p: u16, q: u16) -> Record {
+        let op = self.below(15) as u8 + 1;
+        let one = matches!(op, 9 | 10 | 13 | 14 | 15);
+        record(5, op, p, if one { 0 } else { q }, 0)
+    }
+
+    /// Bytes of any length and kind, with a leaning to what a rule has.
+    pub fn bytes(&mut self) -> Vec<u8> {
+        let length = match self.below(3) {
+            0 => self.below(100),
+            _ => 8 * self.below(12),
+        };
+        (0..length)
+            .map(|_| self.pick(&[0, 0, 0, 0, 1, 2, 3, 4, 5, 6, 7, 8, 9, 255]))
+            .collect()
+    }
+}

@@ -1,0 +1,295 @@
+//! Evaluations: the desk and the second evaluator go through the same sessions side by side.
+
+use crate::desk;
+use crate::dice::{record, rule, Dice};
+use crate::tally::Tally;
+use crate::trials::{compare_fits, readings, result_of};
+use second::{evaluate, open, Answer, Input, Session};
+
+const FALSE: Input = Input { kind: 0, value: 0 };
+const UNANSWERED: [u8; 10] = [0xa5; 10];
+
+/// One session, kept by both.
+pub struct Pair {
+    form: Vec<u8>,
+    ours: Vec<u8>,
+    pub session: Session,
+    pub theirs: Vec<u8>,
+}
+
+impl Pair {
+    /// Nothing where the opening is refused.
+    pub fn open(inputs: &[Input; 16], bytes: usize) -> Option<Pair> {
+        let mut theirs = vec![0; bytes];
+        let session = open(inputs, &mut theirs).ok()?;
+        let form = desk::session_bytes(&session);
+        let ours = theirs.clone();
+        Some(Pair {
+            form,
+            ours,
+            session,
+            theirs,
+        })
+    }
+
+    /// The answer, the session and every byte of the table are the same afterwards.
+    pub fn evaluate(&mut self, tally: &mut Tally, bytes: &[u8], allowance: u16) -> Answer {
+        let mut given = UNANSWERED;
+        let refusal = desk::evaluate(&mut self.form, &mut self.ours, bytes, allowance, &mut given);
+        let answer = evaluate(&mut self.session, &mut self.theirs, bytes, allowance);
+        let (expected, wanted) = answer_bytes(answer);
+        tally.saw("evaluate", expected);
+        tally.same("evaluate", (refusal, given), (expected, wanted));
+        let form = desk::session_bytes(&self.session);
+        tally.same_bytes("evaluate's session", &self.form, &form);
+        tally.same_bytes("evaluate's table", &self.ours, &self.theirs);
+        answer
+    }
+}
+
+/// The refusal or 0, and the answer's ten bytes then.
+fn answer_bytes(answer: Answer) -> (u8, [u8; 10]) {
+    let (halted, s, t, value, depth) = match answer {
+        Answer::Out { s, t, value, depth } => (0, s, t, value, depth),
+        Answer::Halt { s, t, depth } => (1, s, t, 0, depth),
+        Answer::Refused(refusal) => return (refusal, UNANSWERED),
+    };
+    let mut bytes = [halted, 0, 0, 0, 0, 0, 0, 0, 0, 0];
+    for (place, number) in bytes[2..].chunks_exact_mut(2).zip([s, t, value, depth]) {
+        place.copy_from_slice(&number.to_le_bytes());
+    }
+    (0, bytes)
+}
+
+pub fn all(tally: &mut Tally) {
+    self_application(tally);
+    datum_and_let(tally);
+    leaves(tally);
+    damaged_bytes(tally);
+    random_sessions(tally);
+    guarded_updates(tally);
+    thousand_rules(tally);
+    forms(tally);
+}
+
+/// P10 and its neighbours: "apply my argument to itself", applied to itself, at every allowance.
+fn self_application(tally: &mut Tally) {
+    let bytes = rule(&[
+        record(6, 0, 1, 3, 0),
+        record(3, 0, 2, 0, 0),
+        record(4, 0, 0, 0, 0),
+        record(4, 0, 0, 0, 0),
+    ]);
+    for allowance in 0..=258 {
+        let mut pair = Pair::open(&[FALSE; 16], 65_536).expect("a good opening");
+        let answer = pair.evaluate(tally, &bytes, allowance);
+        let refusal = if (1..=256).contains(&allowance) {
+            12
+        } else {
+            8
+        };
+        tally.same("self application", answer, Answer::Refused(refusal));
+    }
+}
+
+/// P6 and P7: a datum needs an allowance of 1, a let of data one of 2.
+fn datum_and_let(tally: &mut Tally) {
+    let datum = record(1, 1, 0, 0, 0);
+    let bound = [record(6, 0, 1, 2, 0), datum, datum];
+    for allowance in 0..=4 {
+        let mut pair = Pair::open(&[FALSE; 16], 272).expect("a good opening");
+        pair.evaluate(tally, &rule(&[datum]), allowance);
+        pair.evaluate(tally, &rule(&bound), allowance);
+    }
+}
+
+/// A rule that calls a choice of so many procedures, by tests of the free words at places 1 to 15.
+fn many_targets(targets: u16) -> Vec<u8> {
+    let mut records = vec![record(6, 0, 0, 0, 0)];
+    let root = choices(&mut records, 0, targets);
+    let call = records.len() as u16;
+    records.push(record(4, 0, 0, 1, 0));
+    records[0] = record(6, 0, root, call, 0);
+    rule(&records)
+}
+
+/// A balanced tree of ifs; each test is bound by a let, so that it is a new truth.
+fn choices(records: &mut Vec<second::Record>, bindings: u16, targets: u16) -> u16 {
+    let number = records.len() as u16;
+    if targets == 1 {
+        records.push(record(3, 0, number + 1, 0, 0));
+        records.push(record(1, 2, number, 0, 0));
+        return number;
+    }
+    records.push(record(6, 0, number + 1, 0, 0));
+    records.push(record(5, 11, bindings, bindings + 1, 0));
+    let branch = records.len() as u16;
+    records.push(record(7, 0, 0, 0, 0));
+    let then = choices(records, bindings + 1, targets / 2);
+    let other = choices(records, bindings + 1, targets - targets / 2);
+    records[usize::from(branch)] = record(7, 0, 0, then, other);
+    records[usize::from(number)] = record(6, 0, number + 1, branch, 0);
+    number
+}
+
+/// A call through a nest of ifs by free truths, each else a procedure: so many leaves in a chain of choices.
+fn chained_targets(targets: u16) -> Vec<u8> {
+    let mut records = vec![record(6, 0, 1, 0, 0)];
+    for n in 1..targets {
+        let at = records.len() as u16;
+        records.push(record(7, 0, (n - 1) % 16, at + 1, at + 3));
+        records.push(record(3, 0, at + 2, 0, 0));
+        records.push(record(1, 2, n, 0, 0));
+    }
+    let at = records.len() as u16;
+    records.push(record(3, 0, at + 1, 0, 0));
+    records.push(record(1, 2, 0, 0, 0));
+    records.push(record(4, 0, 0, 1, 0));
+    records[0] = record(6, 0, 1, at + 2, 0);
+    rule(&records)
+}
+
+/// Calls of 1 to 70 targets, in tables that fill at every place of the walk, the bindings and the merge.
+fn leaves(tally: &mut Tally) {
+    let truths = [Input { kind: 2, value: 0 }; 16];
+    let words = [Input { kind: 3, value: 0 }; 16];
+    for targets in (1..=10).chain([31, 32, 33, 63, 64, 65, 66, 70]) {
+        let cases = [
+            (truths, chained_targets(targets)),
+            (words, many_targets(targets)),
+        ];
+        for (inputs, bytes) in cases {
+            let mut whole = Pair::open(&inputs, 65_536).expect("a good opening");
+            whole.evaluate(tally, &bytes, 256);
+            let opened = 34;
+            let needed = usize::from(whole.session.count).max(opened + 400);
+            for terms in (opened..=needed + 1).step_by(1 + needed / 700) {
+                let mut pair = Pair::open(&inputs, 8 * terms).expect("a good opening");
+                pair.evaluate(tally, &bytes, 256);
+            }
+            for allowance in 1..=20 {
+                let mut pair = Pair::open(&inputs, 65_536).expect("a good opening");
+                pair.evaluate(tally, &bytes, allowance);
+            }
+        }
+    }
+}
+
+/// A byte of the session, the table or the rule changed before the evaluation.
+fn damaged_bytes(tally: &mut Tally) {
+    let mut dice = Dice(0xbad);
+    for _ in 0..6_000 {
+        let inputs = dice.inputs();
+        let mut pair = Pair::open(&inputs, 512).expect("a good opening");
+        let mut bytes = dice.rule(6);
+        pair.evaluate(tally, &bytes, 20);
+        let other = dice.pick(&[0, 1, 2, 3, 5, 8, 17, 34, 255]);
+        match dice.below(3) {
+            0 => {
+                let at = dice.below(bytes.len() as u64) as usize;
+                bytes[at] = other;
+            }
+            1 => {
+                let at = dice.below(512) as usize;
+                pair.theirs[at] = other;
+                pair.ours[at] = other;
+            }
+            _ => {
+                let session = &mut pair.session;
+                let number = dice.below(u64::from(session.count) + 2) as u16;
+                match dice.below(5) {
+                    0 => session.count = number,
+                    1 => session.s = number,
+                    2 => session.t = number,
+                    3 => session.accepted = dice.pick(&[0, 1, 999, 1_000, 1_001]),
+                    _ => session.halted = !session.halted,
+                }
+                pair.form = desk::session_bytes(&pair.session);
+            }
+        }
+        pair.evaluate(tally, &bytes, 20);
+    }
+}
+
+/// Sessions of a few rules, refused ones between them, each result read under many numbers.
+fn random_sessions(tally: &mut Tally) {
+    let mut dice = Dice(0x2ea1);
+    for _ in 0..20_000 {
+        let inputs = dice.inputs();
+        let size = dice.pick(&[272, 304, 512, 1_024, 4_096, 16_384]);
+        let mut pair = Pair::open(&inputs, size).expect("a good opening");
+        for _ in 0..4 {
+            let size = dice.below(40) + 1;
+            let mut bytes = dice.rule(size);
+            if dice.below(8) == 0 {
+                let at = dice.below(bytes.len() as u64) as usize;
+                bytes[at] = dice.below(20) as u8;
+            }
+            let allowance = dice.pick(&[0, 1, 2, 3, 5, 8, 24, 24, 24, 100, 256, 257]);
+            let answer = pair.evaluate(tally, &bytes, allowance);
+            compare_fits(tally, &pair.session, &pair.theirs);
+            if let Some(result) = result_of(answer) {
+                readings(tally, &mut dice, &pair.session, &pair.theirs, &result);
+            }
+        }
+    }
+}
+
+/// Guarded updates, rule after rule, until the table of 8,192 terms is full.
+fn guarded_updates(tally: &mut Tally) {
+    let mut inputs = [FALSE; 16];
+    inputs[0].kind = 2;
+    inputs[1].kind = 3;
+    let mut pair = Pair::open(&inputs, 65_536).expect("a good opening");
+    for k in 3.. {
+        let bytes = rule(&[
+            record(7, 0, 0, 1, 6),
+            record(6, 0, 2, 3, 0),
+            record(1, 2, k, 0, 0),
+            record(6, 0, 4, 5, 0),
+            record(5, 1, 0, 2, 0),
+            record(5, 11, 0, 3, 0),
+            record(2, 0, 1, 0, 0),
+        ]);
+        if matches!(pair.evaluate(tally, &bytes, 9), Answer::Refused(_)) {
+            break;
+        }
+    }
+    tally.same("a full table", pair.session.count > 8_000, true);
+}
+
+/// A thousand rules are accepted in a session, and no more.
+fn thousand_rules(tally: &mut Tally) {
+    let mut pair = Pair::open(&[FALSE; 16], 272).expect("a good opening");
+    let bytes = rule(&[record(1, 1, 0, 0, 0)]);
+    for _ in 0..1_000 {
+        pair.evaluate(tally, &bytes, 1);
+    }
+    let answer = pair.evaluate(tally, &bytes, 1);
+    tally.same("rule 1,001", answer, Answer::Refused(9));
+}
+
+/// Byte forms of wrong lengths.
+fn forms(tally: &mut Tally) {
+    let pair = Pair::open(&[FALSE; 16], 272).expect("a good opening");
+    let bytes = rule(&[record(1, 1, 0, 0, 0)]);
+    for length in (0..100).filter(|&n| n != 74) {
+        let (mut form, mut table) = (pair.form.clone(), pair.ours.clone());
+        form.resize(length, 0);
+        let before = form.clone();
+        let mut given = UNANSWERED;
+        let refusal = desk::evaluate(&mut form, &mut table, &bytes, 1, &mut given);
+        tally.same("session's length", (refusal, given), (3, UNANSWERED));
+        tally.same_bytes("session's length", &form, &before);
+        tally.same_bytes("session's length", &table, &pair.ours);
+    }
+    for length in (0..20).filter(|&n| n != 10) {
+        let (mut form, mut table) = (pair.form.clone(), pair.ours.clone());
+        let mut given = vec![0xa5; length];
+        let refusal = desk::evaluate(&mut form, &mut table, &bytes, 1, &mut given);
+        tally.same("answer's length", refusal, 14);
+        tally.same("answer's length", given, vec![0xa5; length]);
+        tally.same_bytes("answer's length", &form, &pair.form);
+        tally.same_bytes("answer's length", &table, &pair.ours);
+    }
+}

@@ -1,0 +1,52 @@
+//! Counts comparisons; the first few differences are told on standard error.
+
+use std::collections::BTreeSet;
+use std::fmt::Debug;
+
+const TOLD: u64 = 20;
+
+#[derive(Default)]
+pub struct Tally {
+    pub comparisons: u64,
+    pub differences: u64,
+    seen: BTreeSet<(&'static str, u8)>,
+}
+
+impl Tally {
+    /// The second evaluator gave this answer.
+    pub fn saw(&mut self, operation: &'static str, answer: u8) {
+        self.seen.insert((operation, answer));
+    }
+
+    /// An answer that no trial had is a difference too.
+    pub fn require(&mut self, operation: &'static str, answer: u8) {
+        let seen = self.seen.contains(&(operation, answer));
+        let what = format!("{operation} answered {answer}");
+        self.same(&what, seen, true);
+    }
+
+    pub fn same<T: PartialEq + Debug>(&mut self, what: &str, desk: T, second: T) {
+        self.comparisons += 1;
+        if desk == second {
+            return;
+        }
+        self.differences += 1;
+        if self.differences <= TOLD {
+            eprintln!("{what}: desk {desk:?}, second {second:?}");
+        }
+    }
+
+    /// Long byte strings, of which only the first place that differs is told.
+    pub fn same_bytes(&mut self, what: &str, desk: &[u8], second: &[u8]) {
+        self.comparisons += 1;
+        if desk == second {
+            return;
+        }
+        self.differences += 1;
+        if self.differences <= TOLD {
+            let at = desk.iter().zip(second).position(|(a, b)| a != b);
+            let lengths = (desk.len(), second.len());
+            eprintln!("{what}: first difference at {at:?}, lengths {lengths:?}");
+        }
+    }
+}
