@@ -1,17 +1,21 @@
-//! Compares the desk's exports with the second evaluator, byte for byte. `bench` times two tests instead.
+//! Compares the desk's exports with the second evaluator, byte for byte. `bench` takes times instead, and `stack` tries
+//! an evaluation in so many KiB of stack.
 
 mod bench;
 mod desk;
 mod dice;
 mod evaluations;
+mod stack;
 mod tally;
 mod trials;
 mod vectors;
 
 fn main() {
-    if std::env::args().nth(1).as_deref() == Some("bench") {
-        bench::run();
-        return;
+    let words: Vec<String> = std::env::args().skip(1).collect();
+    match words.iter().map(String::as_str).collect::<Vec<_>>()[..] {
+        ["bench"] => return bench::run(),
+        ["stack", kibibytes] => return stack::run(kibibytes.parse().expect("a number")),
+        _ => {}
     }
     let tally = trials::all();
     println!(
