@@ -1,5 +1,6 @@
 //! A second evaluator for the yard rule desk, for comparing answers.
 
+pub mod dice;
 mod evaluate;
 mod opening;
 mod print;

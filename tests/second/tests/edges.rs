@@ -1,6 +1,7 @@
 mod common;
 
-use common::{fits, free_inputs, opened, record, rule, word, Dice, FALSE, FREE_TRUTH};
+use common::{fits, free_inputs, opened, word, FALSE, FREE_TRUTH};
+use second::dice::{record, rule, Dice};
 use second::{evaluate, open, print, read, run, Answer, Input, Outcome, Record, ResultOf, Session};
 use std::collections::BTreeSet;
 

@@ -1,6 +1,7 @@
 mod common;
 
-use common::{opened, Dice};
+use common::opened;
+use second::dice::Dice;
 use second::{evaluate, print, read, run, Answer, Input, Outcome, ResultOf, Session};
 
 /// What the accepted rules give when run in turn, each with its reported depth.

@@ -1,8 +1,9 @@
 //! The time of test 3 on a full table and of the tests 4 to 7 on the longest rule, beside the second evaluator's.
 
 use crate::desk;
-use crate::dice::{record, rule};
-use crate::trials::{long_rule, second_fits, second_rule_refusal};
+use crate::rules::{guarded_update, long_rule};
+use crate::trials::{second_fits, second_rule_refusal};
+use second::dice::record;
 use second::{evaluate, open, Answer, Input, Session};
 use std::hint::black_box;
 use std::time::Instant;
@@ -31,20 +32,11 @@ fn filled(term: impl Fn(u16) -> (u8, u8, u16, u16)) -> (Session, Vec<u8>) {
     (session, table)
 }
 
-/// Guarded updates, rule after rule, until the table is full: k more where place 0 holds, if that is below place 1.
+/// Guarded updates, rule after rule, until the table is full.
 fn updated() -> (Session, Vec<u8>) {
     let (mut session, mut table) = opened();
     for k in 3.. {
-        let bytes = rule(&[
-            record(7, 0, 0, 1, 6),
-            record(6, 0, 2, 3, 0),
-            record(1, 2, k, 0, 0),
-            record(6, 0, 4, 5, 0),
-            record(5, 1, 0, 2, 0),
-            record(5, 11, 0, 3, 0),
-            record(2, 0, 1, 0, 0),
-        ]);
-        match evaluate(&mut session, &mut table, &bytes, 9) {
+        match evaluate(&mut session, &mut table, &guarded_update(k), 9) {
             Answer::Refused(_) => break,
             _ => continue,
         }

@@ -1,9 +1,10 @@
 //! Evaluations: the desk and the second evaluator go through the same sessions side by side.
 
 use crate::desk;
-use crate::dice::{record, rule, Dice};
+use crate::rules::{chained_targets, guarded_update, self_application};
 use crate::tally::Tally;
 use crate::trials::{compare_fits, readings, result_of};
+use second::dice::{record, rule, Dice};
 use second::{evaluate, open, Answer, Input, Session};
 
 const FALSE: Input = Input { kind: 0, value: 0 };
@@ -62,7 +63,7 @@ fn answer_bytes(answer: Answer) -> (u8, [u8; 10]) {
 }
 
 pub fn all(tally: &mut Tally) {
-    self_application(tally);
+    self_applied(tally);
     datum_and_let(tally);
     leaves(tally);
     damaged_bytes(tally);
@@ -73,13 +74,8 @@ pub fn all(tally: &mut Tally) {
 }
 
 /// P10 and its neighbours: "apply my argument to itself", applied to itself, at every allowance.
-fn self_application(tally: &mut Tally) {
-    let bytes = rule(&[
-        record(6, 0, 1, 3, 0),
-        record(3, 0, 2, 0, 0),
-        record(4, 0, 0, 0, 0),
-        record(4, 0, 0, 0, 0),
-    ]);
+fn self_applied(tally: &mut Tally) {
+    let bytes = self_application();
     for allowance in 0..=258 {
         let mut pair = Pair::open(&[FALSE; 16], 65_536).expect("a good opening");
         let answer = pair.evaluate(tally, &bytes, allowance);
@@ -132,30 +128,16 @@ fn choices(records: &mut Vec<second::Record>, bindings: u16, targets: u16) -> u1
     number
 }
 
-/// A call through a nest of ifs by free truths, each else a procedure: so many leaves in a chain of choices.
-fn chained_targets(targets: u16) -> Vec<u8> {
-    let mut records = vec![record(6, 0, 1, 0, 0)];
-    for n in 1..targets {
-        let at = records.len() as u16;
-        records.push(record(7, 0, (n - 1) % 16, at + 1, at + 3));
-        records.push(record(3, 0, at + 2, 0, 0));
-        records.push(record(1, 2, n, 0, 0));
-    }
-    let at = records.len() as u16;
-    records.push(record(3, 0, at + 1, 0, 0));
-    records.push(record(1, 2, 0, 0, 0));
-    records.push(record(4, 0, 0, 1, 0));
-    records[0] = record(6, 0, 1, at + 2, 0);
-    rule(&records)
-}
-
 /// Calls of 1 to 70 targets, in tables that fill at every place of the walk, the bindings and the merge.
 fn leaves(tally: &mut Tally) {
     let truths = [Input { kind: 2, value: 0 }; 16];
     let words = [Input { kind: 3, value: 0 }; 16];
     for targets in (1..=10).chain([31, 32, 33, 63, 64, 65, 66, 70]) {
         let cases = [
-            (truths, chained_targets(targets)),
+            (
+                truths,
+                chained_targets(targets, 1, |n| record(1, 2, n, 0, 0)),
+            ),
             (words, many_targets(targets)),
         ];
         for (inputs, bytes) in cases {
@@ -242,16 +224,10 @@ fn guarded_updates(tally: &mut Tally) {
     inputs[1].kind = 3;
     let mut pair = Pair::open(&inputs, 65_536).expect("a good opening");
     for k in 3.. {
-        let bytes = rule(&[
-            record(7, 0, 0, 1, 6),
-            record(6, 0, 2, 3, 0),
-            record(1, 2, k, 0, 0),
-            record(6, 0, 4, 5, 0),
-            record(5, 1, 0, 2, 0),
-            record(5, 11, 0, 3, 0),
-            record(2, 0, 1, 0, 0),
-        ]);
-        if matches!(pair.evaluate(tally, &bytes, 9), Answer::Refused(_)) {
+        if matches!(
+            pair.evaluate(tally, &guarded_update(k), 9),
+            Answer::Refused(_)
+        ) {
             break;
         }
     }

@@ -3,8 +3,8 @@
 
 mod bench;
 mod desk;
-mod dice;
 mod evaluations;
+mod rules;
 mod stack;
 mod tally;
 mod trials;

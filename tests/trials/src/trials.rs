@@ -1,10 +1,11 @@
 //! The trials, each with seeds of its own.
 
 use crate::desk;
-use crate::dice::{record, rule, Dice};
 use crate::evaluations;
+use crate::rules::{long_rule, self_application};
 use crate::tally::Tally;
 use crate::vectors;
+use second::dice::{record, rule, Dice};
 use second::{evaluate, open, read, run, Answer, Input, Outcome, Record, ResultOf, Session};
 
 const FALSE: Input = Input { kind: 0, value: 0 };
@@ -179,22 +180,6 @@ fn openings(tally: &mut Tally) {
     }
 }
 
-/// A chain of lets with so many records; of an even number the last but one is a procedure.
-pub fn long_rule(records: u16) -> Vec<u8> {
-    let mut list = Vec::new();
-    while list.len() + 2 < usize::from(records) {
-        let at = list.len() as u16;
-        list.push(record(6, 0, at + 1, at + 2, 0));
-        list.push(record(1, 2, at, 0, 0));
-    }
-    while list.len() + 1 < usize::from(records) {
-        let at = list.len() as u16;
-        list.push(record(3, 0, at + 1, 0, 0));
-    }
-    list.push(record(2, 0, 0, 0, 0));
-    rule(&list)
-}
-
 fn rule_sizes(tally: &mut Tally) {
     for records in [1, 2, 3, 4_095, 4_096, 4_097] {
         let bytes = long_rule(records);
@@ -290,7 +275,7 @@ fn runs(tally: &mut Tally) {
         } else {
             dice.inputs()
         };
-        let numbers = dice.numbers(&inputs);
+        let numbers = dice.any_numbers(&inputs);
         let size = dice.below(24) + 1;
         let mut bytes = dice.rule(size);
         if dice.below(8) == 0 {
@@ -310,12 +295,7 @@ fn runs(tally: &mut Tally) {
 
 /// "Apply my argument to itself", applied to itself: the depth is spent, or the store is full first.
 fn looping(tally: &mut Tally) {
-    let bytes = rule(&[
-        record(6, 0, 1, 3, 0),
-        record(3, 0, 2, 0, 0),
-        record(4, 0, 0, 0, 0),
-        record(4, 0, 0, 0, 0),
-    ]);
+    let bytes = self_application();
     for allowance in 0..=258 {
         for store in [127, 128, 136, 144, 800, 2_144, 2_160, 2_168, 2_176, 65_536] {
             compare_run(tally, &[FALSE; 16], &[0; 16], &bytes, allowance, store);
@@ -366,7 +346,7 @@ pub fn readings(
 ) {
     let count = usize::from(session.count);
     for _ in 0..4 {
-        let numbers = dice.numbers(&session.inputs);
+        let numbers = dice.any_numbers(&session.inputs);
         compare_read(tally, session, table, &numbers, result, count);
         compare_read(tally, session, table, &numbers, result, count - 1);
         compare_read(tally, session, table, &numbers, result, count + 3);

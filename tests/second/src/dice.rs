@@ -1,6 +1,7 @@
 //! Rules, inputs and numbers at random, from a fixed seed.
 
-use second::{Input, Record};
+use crate::records::Record;
+use crate::session::Input;
 
 pub fn record(kind: u8, op: u8, a: u16, b: u16, c: u16) -> Record {
     Record { kind, op, a, b, c }
@@ -72,11 +73,20 @@ impl Dice {
         inputs
     }
 
-    /// Numbers for inputs; for a few of the free truths one over 1.
+    /// Numbers that 13 lets pass.
     pub fn numbers(&mut self, inputs: &[Input; 16]) -> [u16; 16] {
-        let odd = self.below(10) == 0;
+        self.numbers_below(2, inputs)
+    }
+
+    /// Numbers of which a few are over 1 for a free truth.
+    pub fn any_numbers(&mut self, inputs: &[Input; 16]) -> [u16; 16] {
+        let bound = if self.below(10) == 0 { 3 } else { 2 };
+        self.numbers_below(bound, inputs)
+    }
+
+    fn numbers_below(&mut self, bound: u64, inputs: &[Input; 16]) -> [u16; 16] {
         std::array::from_fn(|i| match inputs[i].kind {
-            2 => self.below(if odd { 3 } else { 2 }) as u16,
+            2 => self.below(bound) as u16,
             _ => self.word(),
         })
     }
