@@ -1,0 +1,185 @@
+-- What an opening leaves: under any sixteen numbers, the binding that it gives means the inputs as the concrete run binds them. Assumes nothing.
+use mathlib.Core.Path.{_≡_, refl, sym, ap, subst, _∙_}
+use mathlib.Core.Bool.{Bool, true, false, not, or-true}
+use mathlib.Core.List.{List, [], _∷_}
+use Prim.Native.Nat.{ℕ, zero, suc, _+_, _<_, _≤_}
+use native.Mathlib.Omega.{arith}
+use lib.ListN.{length, getD}
+use lib.Dec.{eqb}
+use borrow.Author.Tests.{ltb-true, lt-ltb}
+use Rattle.notation.specs.Notation.{pick, if_then_else_, if_equals_then_else_}
+use Rattle.semantics.specs.declared.Term.{Term}
+use Rattle.semantics.specs.declared.Input.{Input}
+use Rattle.semantics.specs.Numbers.{truthTerm, wordTerm, freeTruthTerm, freeWordTerm, bindingTerm, noBinding, inputCount, mostTable, constantTruth, constantWord, freeTruth}
+use Rattle.semantics.specs.Terms.{term, at, sortOf, sameOf, findOf, laidOut, wellFormed}
+use Rattle.semantics.specs.Rules.{every}
+use Rattle.semantics.specs.Steps.{settingOf, Got, gave, deeper, _>>=_, makeOf}
+use Rattle.semantics.specs.Opening.{inputTaken, inputTerm, inputsOf, chainOf, openingOf}
+use Rattle.semantics.specs.Run.{Value, truth, word, binding, none, inputValue, inputsBound}
+use Rattle.typing.proofs.Grown.{Grown, still, Value as Named, value-grown, value-of, binding-named}
+use Rattle.typing.proofs.Formed.{never, by-test, There}
+use Rattle.typing.proofs.Steps.{Lies, Fit, Post, did, not-did, Does, does-give, does-then, does-map, does-weaken, does-make}
+use Rattle.typing.proofs.Factory.{there-sort, binding-sort}
+use Rattle.soundness.proofs.Means.{termMeaning, meaning, meaning-grown, meaning-past}
+use Rattle.soundness.proofs.BySort.{there-means, means-binding}
+use Rattle.soundness.proofs.Held.{Is, En}
+
+is-grown : {ns : List ℕ} {ts us : List Term} {v : Value} {x : ℕ} → Grown ts us → Is ns v ts x → Is ns v us x
+is-grown {ns} {x = x} g h = record { named = value-grown g (h .named); is = meaning-grown ns x g (h .named .low) ∙ h .is }
+
+-- ---- an input's term
+record Makes (n : ℕ) (ns : List ℕ) (v : Value) (t : Term) : Type 0 where
+  lies : (ts : List Term) → laidOut n ts t ≡ true
+  named : (us : List Term) (a : ℕ) → There t us a → Named us a
+  means : (f : ℕ → Value) → termMeaning ns f t ≡ v
+
+constant-value : (a : ℕ) → a < 2 → not (eqb a 0) ≡ eqb a 1
+constant-value zero h = refl
+constant-value (suc zero) h = refl
+constant-value (suc (suc a)) h = absurd (omega arith)
+
+module _ (n : ℕ) (ns : List ℕ) where
+  makes-truth : (a : ℕ) → a < 2 → Makes n ns (truth (eqb a 1)) (term truthTerm 0 a 0 0)
+  unfolding laidOut sortOf termMeaning if_equals_then_else_
+  makes-truth a h =
+      record { lies = λ ts. rw (lt-ltb a 2 h); named = λ us x t. value-of truthTerm refl refl (there-sort truthTerm refl t); means = λ f. ap truth (constant-value a h) }
+
+  makes-word : (a : ℕ) → Makes n ns (word a) (term wordTerm 0 a 0 0)
+  unfolding laidOut sortOf termMeaning if_equals_then_else_
+  makes-word a = record { lies = λ ts. refl; named = λ us x t. value-of wordTerm refl refl (there-sort wordTerm refl t); means = λ f. refl }
+
+  makes-free-truth : (i : ℕ) → i < inputCount → Makes n ns (truth (eqb (getD ns i 0) 1)) (term freeTruthTerm 0 i 0 0)
+  unfolding laidOut sortOf termMeaning if_equals_then_else_
+  makes-free-truth i h =
+      record { lies = λ ts. rw (lt-ltb i inputCount h); named = λ us x t. value-of truthTerm refl refl (there-sort truthTerm refl t); means = λ f. refl }
+
+  makes-free-word : (i : ℕ) → i < inputCount → Makes n ns (word (getD ns i 0)) (term freeWordTerm 0 i 0 0)
+  unfolding laidOut sortOf termMeaning if_equals_then_else_
+  makes-free-word i h =
+      record { lies = λ ts. rw (lt-ltb i inputCount h); named = λ us x t. value-of wordTerm refl refl (there-sort wordTerm refl t); means = λ f. refl }
+
+  makes-input : (i : ℕ) (x : Input) → inputTaken x ≡ true → i < inputCount → Makes n ns (inputValue x (getD ns i 0)) (inputTerm i x)
+  unfolding inputTaken inputTerm inputValue if_equals_then_else_
+  makes-input i x h l = go (eqb (x .kind) constantTruth) (eqb (x .kind) constantWord) (eqb (x .kind) freeTruth) refl
+    where
+      small : eqb (x .kind) constantTruth ≡ true → x .value < 2
+      small e = ltb-true (x .value) 2 (rw e at h)
+
+      go : (a b c : Bool) → eqb (x .kind) constantTruth ≡ a
+          → Makes n ns (pick a (truth (eqb (x .value) 1)) (pick b (word (x .value)) (pick c (truth (eqb (getD ns i 0) 1)) (word (getD ns i 0)))))
+          (pick a (term truthTerm 0 (x .value) 0 0) (pick b (term wordTerm 0 (x .value) 0 0) (pick c (term freeTruthTerm 0 i 0 0) (term freeWordTerm 0 i 0 0))))
+      go true b c e = makes-truth (x .value) (small e)
+      go false true c e = makes-word (x .value)
+      go false false true e = makes-free-truth i l
+      go false false false e = makes-free-word i l
+
+-- ---- the values of the inputs, and a chain of them
+abbrev valuesOf : List ℕ → ℕ → List Input → List Value
+valuesOf ns i [] = []
+valuesOf ns i (x ∷ xs) = inputValue x (getD ns i 0) ∷ valuesOf ns (suc i) xs
+
+abbrev chained : List Value → Value
+chained [] = none
+chained (v ∷ vs) = binding v (chained vs)
+
+data Ins (ns : List ℕ) : List Value → List Term → List ℕ → Type 0 where
+  no-in : {ts : List Term} → Ins ns [] ts []
+  also-in : {v : Value} {vs : List Value} {ts : List Term} {x : ℕ} {xs : List ℕ} → Is ns v ts x → Ins ns vs ts xs → Ins ns (v ∷ vs) ts (x ∷ xs)
+
+-- a chain's end, or a binding
+data Tail (ns : List ℕ) : Value → List Term → ℕ → Type 0 where
+  tail-end : {ts : List Term} {e : ℕ} → e ≡ noBinding → Tail ns none ts e
+  tail-on : {v : Value} {ts : List Term} {e : ℕ} → En ns v ts e → Tail ns v ts e
+
+module _ {n : ℕ} {ns : List ℕ} where
+  tail-laid : {ts : List Term} {v x : ℕ} {a b : Value} → Is ns a ts v → Tail ns b ts x → Lies n ts (term bindingTerm 0 v x 0)
+  unfolding laidOut if_equals_then_else_
+  tail-laid h (tail-end e) = record { is = rw (h .named .is, e) }
+  tail-laid {x = x} h (tail-on k) = record { is = rw (h .named .is, binding-named (k .sort), or-true (eqb x noBinding)) }
+
+  tail-means : {ts us : List Term} {x : ℕ} {b : Value} → Fit n us → Grown ts us → Tail ns b ts x → meaning ns us x ≡ b
+  tail-means {us = us} f g (tail-end e) = let s = f .short in rw e (meaning-past ns us noBinding (omega arith))
+  tail-means {x = x} f g (tail-on k) = meaning-grown ns x g (k .sort .low) ∙ k .is
+
+module _ {l n : ℕ} {ns : List ℕ} where
+  input-does : {ts : List Term} (i : ℕ) (x : Input) → Fit n ts → inputTaken x ≡ true → i < inputCount → Does l n (makeOf (inputTerm i x)) ts (Is ns (inputValue x (getD ns i 0)))
+  input-does {ts} i x f h k =
+      let m = makes-input n ns i x h k in
+      does-weaken (λ us a g j t. record { named = m .named us a t; is = there-means ns j t ∙ m .means (meaning ns us) }) (does-make f (record { is = m .lies ts }))
+
+  inputs-does : {ts : List Term} (i : ℕ) (xs : List Input) → Fit n ts → every inputTaken xs ≡ true → i + length xs ≤ inputCount
+      → Does l n (inputsOf i xs) ts (Ins ns (valuesOf ns i xs))
+  unfolding inputsOf every if_then_else_
+  inputs-does i [] f h k = does-give [] f no-in
+  inputs-does i (x ∷ xs) f h k =
+      by-test (inputTaken x) (every inputTaken xs) false h
+      (λ p q. does-then (input-does i x f p (omega arith)) (λ us v g j r. does-map _ (inputs-does (suc i) xs j q (omega arith)) (λ ws vs u w z. also-in (is-grown u r) z)))
+      (λ p q. never q)
+
+  chain-does : {ts us : List Term} {ws : List Value} {vs : List ℕ} → Grown ts us → Fit n us → Ins ns ws ts vs → Does l n (chainOf vs) us (Tail ns (chained ws))
+  unfolding chainOf
+  chain-does g f no-in = does-give _ f (tail-end refl)
+  chain-does g f (also-in {x = v} h r) =
+      does-then (chain-does g f r) (λ ys e p j k.
+      does-weaken (λ zs a q o t. tail-on (record {
+        sort = there-sort bindingTerm (binding-sort v e) t;
+        is = there-means ns o t ∙ (means-binding ns (meaning ns zs) (term bindingTerm 0 v e 0) refl ∙ rw (is-grown q (is-grown p (is-grown g h)) .is, tail-means o q k));
+      })) (does-make j (tail-laid (is-grown p (is-grown g h)) k)))
+
+chained-inputs : (ns : List ℕ) (i : ℕ) (xs : List Input) (ms : List ℕ) → length xs ≤ length ms → ((j : ℕ) → getD ms j 0 ≡ getD ns (i + j) 0)
+    → chained (valuesOf ns i xs) ≡ inputsBound xs ms
+unfolding inputsBound
+chained-inputs ns i [] ms h k = refl
+chained-inputs ns i (x ∷ xs) [] h k = absurd (omega arith)
+chained-inputs ns i (x ∷ xs) (m ∷ ms) h k =
+    let a : m ≡ getD ns i 0 = k 0 ∙ ap (λ j. getD ns j 0) (right i) in
+    rw (a, chained-inputs ns (suc i) xs ms (omega arith) (λ j. k (suc j) ∙ ap (λ j. getD ns j 0) (next-index i j)))
+  where
+    right : (i : ℕ) → i + 0 ≡ i
+    right i = omega arith
+
+    next-index : (i j : ℕ) → i + suc j ≡ suc i + j
+    next-index i j = omega arith
+
+-- ---- the whole opening
+abbrev constants : List Term
+constants = term truthTerm 0 1 0 0 ∷ term truthTerm 0 0 0 0 ∷ []
+
+constants-fit : (n : ℕ) → Fit n constants
+unfolding wellFormed laidOut findOf sameOf at if_equals_then_else_
+constants-fit n = record { formed = refl; no = record { low = omega arith; is = refl }; yes = record { low = omega arith; is = refl }; short = omega arith }
+
+from-constants : (xs : List Input) → openingOf xs (settingOf mostTable) [] ≡ deeper 0 (deeper 0 ((inputsOf 0 xs >>= λ vs. chainOf vs) (settingOf mostTable) constants))
+unfolding openingOf _>>=_ makeOf findOf sameOf
+from-constants xs = refl
+
+tail-en : {ns : List ℕ} {v : Value} {ts : List Term} {e : ℕ} → (v ≡ none → ⊥) → Tail ns v ts e → En ns v ts e
+tail-en d (tail-end e) = absurd (d refl)
+tail-en d (tail-on h) = h
+
+pub record Opens (n : ℕ) (ns : List ℕ) (v : Value) (ts : List Term) (e : ℕ) : Type 0 where
+  pub fit : Fit n ts
+  pub environment : En ns v ts e
+
+pub opening-means : {n : ℕ} (ns : List ℕ) (xs : List Input) → length xs ≡ inputCount → inputCount ≤ length ns → every inputTaken xs ≡ true
+    → {ts : List Term} {e u : ℕ} → openingOf xs (settingOf mostTable) [] ≡ gave ts e u → Opens n ns (inputsBound xs ns) ts e
+opening-means {n} ns xs l m h {ts} {e} {u} q =
+    go _ _ (does-then (inputs-does {l = mostTable} {n = n} {ns = ns} 0 xs (constants-fit n) h (omega arith)) (λ us vs g f r. chain-does still f r) .post)
+    (sym (from-constants xs) ∙ q)
+  where
+    not-none : (xs : List Input) → length xs ≡ inputCount → chained (valuesOf ns 0 xs) ≡ none → ⊥
+    not-none [] k z = omega arith
+    not-none (x ∷ xs) k z = let w : _≡_ {A = ℕ} 0 1 = cc in omega arith
+
+    values-are : chained (valuesOf ns 0 xs) ≡ inputsBound xs ns
+    values-are = chained-inputs ns 0 xs ns (omega arith) (λ j. ap (λ k. getD ns k 0) (left j))
+      where
+        left : (j : ℕ) → j ≡ 0 + j
+        left j = omega arith
+
+    go : (x y : Got ℕ) → Post n constants (Tail ns (chained (valuesOf ns 0 xs))) x y → deeper 0 (deeper 0 y) ≡ gave ts e u → Opens n ns (inputsBound xs ns) ts e
+    go x y (did {us = us} {a = a} g f t) z =
+        let i : us ≡ ts = cc in let j : a ≡ e = cc in
+        subst (λ b. Opens n ns (inputsBound xs ns) ts b) j (subst (λ vs. Opens n ns (inputsBound xs ns) vs a) i
+        (record { fit = f; environment = subst (λ v. En ns v us a) values-are (tail-en (not-none xs l) t) }))
+    go x y not-did z = let w : _≡_ {A = ℕ} 0 1 = cc in absurd (omega arith)

@@ -1,0 +1,317 @@
+-- What the factory makes means what its name says, under any numbers; on a table of constants it makes constants. Assumes nothing.
+use mathlib.Core.Path.{_≡_, refl, sym, ap, _∙_}
+use mathlib.Core.Bool.{Bool, true, false, not, _&&_, _||_, and-true, and-false, or-true, or-false}
+use mathlib.Core.List.{List}
+use Prim.Native.Nat.{ℕ, _<_}
+use lib.Dec.{eqb}
+use borrow.Author.Tests.{eqb-true, eqb-false, ne-eqb, lt-ltb}
+use Rattle.notation.specs.Notation.{pick, if_then_else_, if_equals_then_else_, if_below_then_else_}
+use Rattle.operators.specs.Operators.{operandsOf, givesTruthOf, rowOf}
+use Rattle.semantics.specs.declared.Term.{Term}
+use Rattle.semantics.specs.Numbers.{truthTerm, wordTerm, operatorTerm, choiceTerm, procedureTerm, bindingTerm, isWordCode, isProcedureCode, negationCode, conjunctionCode, disjunctionCode, truthCode, recordLimit, tableFull}
+use Rattle.semantics.specs.Terms.{term, at, sortOf, namesValue, operandsLaidOut, laidOut}
+use Rattle.semantics.specs.Steps.{makeOf}
+use Rattle.semantics.specs.Factory.{notOf, andOf, orOf, impliesOf, choiceOf, truthOf, isWordOf, isProcedureOf}
+use Rattle.semantics.specs.Run.{Value, truth, word, procedure, binding, isFalse, isAWord, isAProcedure}
+use Rattle.typing.proofs.Grown.{Sort, Value as Named, value-of, sort-at, truth-named, choice-named}
+use Rattle.typing.proofs.Formed.{never, There}
+use Rattle.typing.proofs.Steps.{Lies, Fit}
+use Rattle.typing.proofs.Factory.{there-sort, laid-word, laid-binding, laid-procedure, Operands, procedure-sort, binding-sort}
+use Rattle.soundness.proofs.Means.{isTrue, isProper, operatorMeaning, termMeaning, meaning}
+use Rattle.soundness.proofs.Steps.{isConstant, Const, const-at, Step, Does, does-give, does-then, does-weaken, does-read, does-eq, does-make}
+use Rattle.soundness.proofs.BySort.{Kind, constant-truth, constant-word, free-truth, free-word, truth-operator, word-operator, a-choice, a-procedure, a-binding, no-kind, kind-of, means-word, means-choice, means-procedure, means-binding, there-means, truth-means, word-means, procedure-means, choice-kind}
+use Rattle.soundness.proofs.Held.{Bo, Is, En, bo-step, is-step, en-step, is-proper, no-bo, yes-bo, bo-false, bo-true, unknown, named-some, named-other}
+
+-- ---- terms that are laid out
+module _ {n : ℕ} {ts : List Term} where
+  laid-not : {x : ℕ} → Sort truthTerm ts x → Lies n ts (term operatorTerm negationCode x 0 0)
+  unfolding laidOut operandsLaidOut if_equals_then_else_ if_below_then_else_
+  laid-not h = record { is = rw (truth-named h) }
+
+  laid-and : {x y : ℕ} → Sort truthTerm ts x → Sort truthTerm ts y → Lies n ts (term operatorTerm conjunctionCode x y 0)
+  unfolding laidOut operandsLaidOut if_equals_then_else_ if_below_then_else_
+  laid-and h k = record { is = rw (truth-named h, truth-named k) }
+
+  laid-or : {x y : ℕ} → Sort truthTerm ts x → Sort truthTerm ts y → Lies n ts (term operatorTerm disjunctionCode x y 0)
+  unfolding laidOut operandsLaidOut if_equals_then_else_ if_below_then_else_
+  laid-or h k = record { is = rw (truth-named h, truth-named k) }
+
+  laid-truth : {x : ℕ} → Sort choiceTerm ts x → Lies n ts (term operatorTerm truthCode x 0 0)
+  unfolding laidOut operandsLaidOut if_equals_then_else_ if_below_then_else_
+  laid-truth h = record { is = rw (choice-named h) }
+
+  laid-is-word : {x : ℕ} → Sort choiceTerm ts x → Lies n ts (term operatorTerm isWordCode x 0 0)
+  unfolding laidOut operandsLaidOut if_equals_then_else_ if_below_then_else_
+  laid-is-word h = record { is = rw (choice-named h) }
+
+  laid-is-procedure : {x : ℕ} → Sort choiceTerm ts x → Lies n ts (term operatorTerm isProcedureCode x 0 0)
+  unfolding laidOut operandsLaidOut if_equals_then_else_ if_below_then_else_
+  laid-is-procedure h = record { is = rw (choice-named h) }
+
+  laid-choice : {g x y : ℕ} → Sort truthTerm ts g → Named ts x → Named ts y → Lies n ts (term choiceTerm 0 g x y)
+  unfolding laidOut if_equals_then_else_
+  laid-choice h k i = record { is = rw (truth-named h, k .is, i .is) }
+
+pub laid-operator : {n : ℕ} {ts : List Term} {op a b : ℕ} → Operands ts op a b → Lies n ts (term operatorTerm op a b 0)
+unfolding laidOut operandsLaidOut if_equals_then_else_ if_below_then_else_
+laid-operator {n} {ts} {op} {a} {b} h = record { is = rw (ne-eqb _ _ (h .some), lt-ltb _ _ (h .few), h .first .is) (go (eqb (operandsOf op) 1) refl) }
+  where
+    go : (c : Bool) → eqb (operandsOf op) 1 ≡ c → (pick c (eqb b 0) (namesValue ts b) && true) ≡ true
+    go true e = rw (h .alone (eqb-true _ _ e))
+    go false e = rw (h .second (eqb-false _ _ e) .is)
+
+-- ---- the meanings of terms that are made
+module _ (ns : List ℕ) (f : ℕ → Value) where
+  mean-not : (x : ℕ) {b : Bool} → f x ≡ truth b → termMeaning ns f (term operatorTerm negationCode x 0 0) ≡ truth (not b)
+  unfolding termMeaning operatorMeaning if_equals_then_else_ if_below_then_else_
+  mean-not x h = rw h
+
+  mean-and : (x y : ℕ) {b c : Bool} → f x ≡ truth b → f y ≡ truth c → termMeaning ns f (term operatorTerm conjunctionCode x y 0) ≡ truth (b && c)
+  unfolding termMeaning operatorMeaning if_equals_then_else_ if_below_then_else_
+  mean-and x y h k = rw (h, k)
+
+  mean-or : (x y : ℕ) {b c : Bool} → f x ≡ truth b → f y ≡ truth c → termMeaning ns f (term operatorTerm disjunctionCode x y 0) ≡ truth (b || c)
+  unfolding termMeaning operatorMeaning if_equals_then_else_ if_below_then_else_
+  mean-or x y h k = rw (h, k)
+
+  mean-truth : (x : ℕ) {v : Value} → f x ≡ v → isProper v ≡ true → termMeaning ns f (term operatorTerm truthCode x 0 0) ≡ truth (not (isFalse v))
+  unfolding termMeaning operatorMeaning if_equals_then_else_ if_below_then_else_
+  mean-truth x h k = rw (h, k)
+
+  mean-is-word : (x : ℕ) {v : Value} → f x ≡ v → termMeaning ns f (term operatorTerm isWordCode x 0 0) ≡ truth (isAWord v)
+  unfolding termMeaning operatorMeaning if_equals_then_else_ if_below_then_else_
+  mean-is-word x h = rw h
+
+  mean-is-procedure : (x : ℕ) {v : Value} → f x ≡ v → termMeaning ns f (term operatorTerm isProcedureCode x 0 0) ≡ truth (isAProcedure v)
+  unfolding termMeaning operatorMeaning if_equals_then_else_ if_below_then_else_
+  mean-is-procedure x h = rw h
+
+  mean-choice : (g x y : ℕ) {b : Bool} {v w : Value} → f g ≡ truth b → f x ≡ v → f y ≡ w → termMeaning ns f (term choiceTerm 0 g x y) ≡ pick b v w
+  mean-choice g x y h k i = means-choice ns f (term choiceTerm 0 g x y) refl ∙ rw (h, k, i)
+
+  pub mean-operator : (op x y : ℕ) {v w : Value} → f x ≡ v → f y ≡ w → termMeaning ns f (term operatorTerm op x y 0) ≡ operatorMeaning op v w
+  unfolding termMeaning if_equals_then_else_
+  mean-operator op x y h k = rw (h, k)
+
+-- ---- their sorts
+formula : (op a b : ℕ) → givesTruthOf op ≡ true → sortOf (term operatorTerm op a b 0) ≡ truthTerm
+unfolding sortOf if_equals_then_else_ if_then_else_
+formula op a b e = rw e
+
+pub operator-named : {ts : List Term} {x op a b : ℕ} → There (term operatorTerm op a b 0) ts x → Named ts x
+unfolding sortOf if_equals_then_else_ if_then_else_
+operator-named {ts} {x} {op} h = go (givesTruthOf op) refl
+  where
+    go : (c : Bool) → givesTruthOf op ≡ c → Named ts x
+    go true e = value-of truthTerm refl refl (there-sort truthTerm (rw e) h)
+    go false e = value-of wordTerm refl refl (there-sort wordTerm (rw e) h)
+
+word-sort : (w : ℕ) → sortOf (term wordTerm 0 w 0 0) ≡ wordTerm
+unfolding sortOf if_equals_then_else_
+word-sort w = refl
+
+choice-sort : (g x y : ℕ) → sortOf (term choiceTerm 0 g x y) ≡ choiceTerm
+unfolding sortOf if_equals_then_else_
+choice-sort g x y = refl
+
+gives-not : givesTruthOf negationCode ≡ true
+unfolding givesTruthOf rowOf
+gives-not = refl
+
+gives-and : givesTruthOf conjunctionCode ≡ true
+unfolding givesTruthOf rowOf
+gives-and = refl
+
+gives-or : givesTruthOf disjunctionCode ≡ true
+unfolding givesTruthOf rowOf
+gives-or = refl
+
+gives-truth : givesTruthOf truthCode ≡ true
+unfolding givesTruthOf rowOf
+gives-truth = refl
+
+gives-is-word : givesTruthOf isWordCode ≡ true
+unfolding givesTruthOf rowOf
+gives-is-word = refl
+
+gives-is-procedure : givesTruthOf isProcedureCode ≡ true
+unfolding givesTruthOf rowOf
+gives-is-procedure = refl
+
+-- ---- constants
+word-constant : (w : ℕ) → isConstant (term wordTerm 0 w 0 0) ≡ true
+unfolding isConstant if_equals_then_else_
+word-constant w = refl
+
+procedure-constant : (i e b : ℕ) → isConstant (term procedureTerm 0 i e b) ≡ true
+unfolding isConstant if_equals_then_else_
+procedure-constant i e b = refl
+
+binding-constant : (v e : ℕ) → isConstant (term bindingTerm 0 v e 0) ≡ true
+unfolding isConstant if_equals_then_else_
+binding-constant v e = refl
+
+choice-constant : (t : Term) → t .kind ≡ choiceTerm → isConstant t ≡ false
+unfolding isConstant if_equals_then_else_
+choice-constant t k = rw k
+
+-- a table of constants has no choice
+pub no-choice : {P : Type 0} {ts : List Term} {x : ℕ} → Sort choiceTerm ts x → Const ts → P
+no-choice {ts = ts} {x} h c = never (sym (choice-constant (at ts x) (choice-kind (at ts x) (h .is))) ∙ const-at ts x c (h .low))
+
+and-self : (b : Bool) → (b && b) ≡ b
+and-self true = refl
+and-self false = refl
+
+or-self : (b : Bool) → (b || b) ≡ b
+or-self true = refl
+or-self false = refl
+
+-- one number means one truth
+same-bo : {ns : List ℕ} {ts : List Term} {x y : ℕ} {b c : Bool} → Bo ns b ts x → Bo ns c ts y → x ≡ y → c ≡ b
+same-bo {ns} {ts} h k e = ap isTrue (sym (k .is) ∙ (ap (meaning ns ts) (sym e) ∙ h .is))
+
+-- a value by its sort
+module _ {P : Type 0} {ts : List Term} {x : ℕ} (h : Named ts x) where
+  cases : (k : ℕ) → sortOf (at ts x) ≡ k → Kind (at ts x) k → (Sort truthTerm ts x → P) → (Sort wordTerm ts x → P) → (Sort choiceTerm ts x → P) → (Sort procedureTerm ts x → P) → P
+  cases k e (constant-truth i) a b c d = a (record { is = e; low = h .low })
+  cases k e (constant-word i) a b c d = b (record { is = e; low = h .low })
+  cases k e (free-truth i) a b c d = a (record { is = e; low = h .low })
+  cases k e (free-word i) a b c d = b (record { is = e; low = h .low })
+  cases k e (truth-operator i j) a b c d = a (record { is = e; low = h .low })
+  cases k e (word-operator i j) a b c d = b (record { is = e; low = h .low })
+  cases k e (a-choice i) a b c d = c (record { is = e; low = h .low })
+  cases k e (a-procedure i) a b c d = d (record { is = e; low = h .low })
+  cases k e (a-binding i) a b c d = absurd (named-other ts x (h .is) e)
+  cases k e no-kind a b c d = absurd (named-some ts x (h .is) e)
+
+  pub by-sort : (Sort truthTerm ts x → P) → (Sort wordTerm ts x → P) → (Sort choiceTerm ts x → P) → (Sort procedureTerm ts x → P) → P
+  by-sort a b c d = cases (sortOf (at ts x)) refl (kind-of (at ts x)) a b c d
+
+module _ {ns : List ℕ} {n : ℕ} {ts : List Term} {x : ℕ} {v : Value} (f : Fit n ts) (h : Is ns v ts x) where
+  -- what is no choice, and no truth, does not fail a test
+  not-false : (sortOf (at ts x) ≡ choiceTerm → ⊥) → (sortOf (at ts x) ≡ truthTerm → ⊥) → not (isFalse v) ≡ true
+  unfolding isFalse
+  not-false a b =
+      by-sort (h .named) (λ s. absurd (b (s .is))) (λ s. rw (sym (h .is) ∙ word-means ns f s .is)) (λ s. absurd (a (s .is)))
+      (λ s. rw (sym (h .is) ∙ procedure-means ns f s))
+
+  is-truth : (s : sortOf (at ts x) ≡ truthTerm) → Bo ns (not (isFalse v)) ts x
+  unfolding isFalse
+  is-truth s =
+      let t : Sort truthTerm ts x = sort-at ts x truthTerm refl s in
+      let e = truth-means ns f t .is in
+      record { sort = t; is = e ∙ ap truth (go (isTrue (meaning ns ts x)) ∙ ap (λ u. not (isFalse u)) (sym e ∙ h .is)) }
+    where
+      go : (b : Bool) → b ≡ not (not b)
+      go true = refl
+      go false = refl
+
+  is-word : sortOf (at ts x) ≡ wordTerm → isAWord v ≡ true
+  unfolding isAWord
+  is-word s = ap isAWord (sym (h .is) ∙ word-means ns f (sort-at ts x wordTerm refl s) .is)
+
+  no-word : (sortOf (at ts x) ≡ choiceTerm → ⊥) → (sortOf (at ts x) ≡ wordTerm → ⊥) → isAWord v ≡ false
+  unfolding isAWord
+  no-word a b =
+      by-sort (h .named) (λ s. ap isAWord (sym (h .is) ∙ truth-means ns f s .is)) (λ s. absurd (b (s .is))) (λ s. absurd (a (s .is)))
+      (λ s. ap isAWord (sym (h .is) ∙ procedure-means ns f s))
+
+  is-procedure : sortOf (at ts x) ≡ procedureTerm → isAProcedure v ≡ true
+  unfolding isAProcedure
+  is-procedure s = ap isAProcedure (sym (h .is) ∙ procedure-means ns f (sort-at ts x procedureTerm refl s))
+
+  pub no-procedure : (sortOf (at ts x) ≡ choiceTerm → ⊥) → (sortOf (at ts x) ≡ procedureTerm → ⊥) → isAProcedure v ≡ false
+  unfolding isAProcedure
+  no-procedure a b =
+      by-sort (h .named) (λ s. ap isAProcedure (sym (h .is) ∙ truth-means ns f s .is)) (λ s. ap isAProcedure (sym (h .is) ∙ word-means ns f s .is))
+      (λ s. absurd (a (s .is))) (λ s. absurd (b (s .is)))
+
+module _ {l n : ℕ} {N : ℕ → Type 0} (full : N tableFull) {ns : List ℕ} where
+  -- a formula, where it is not folded
+  formula-does : {ts : List Term} {op a b : ℕ} {c : Bool} → givesTruthOf op ≡ true → Fit n ts → Lies n ts (term operatorTerm op a b 0) → (Const ts → ⊥)
+      → ((us : List Term) → Step n ts us → termMeaning ns (meaning ns us) (term operatorTerm op a b 0) ≡ truth c)
+      → Does l n (makeOf (term operatorTerm op a b 0)) ts (Bo ns c) N
+  formula-does {op = op} {a} {b} e f h k m =
+      does-weaken f (λ us x g j. record { sort = there-sort truthTerm (formula op a b e) j; is = there-means ns (g .fit) j ∙ m us g })
+      (does-make full f h (λ c. absurd (k c)))
+
+  pub not-does : {ts : List Term} {x : ℕ} {b : Bool} → Fit n ts → Bo ns b ts x → Does l n (notOf x) ts (Bo ns (not b)) N
+  unfolding notOf
+  not-does {x = x} f h =
+      does-read _ _ (does-eq _ _ (λ e. does-give _ f (rw (bo-false f h e) (yes-bo f))) λ d. does-eq _ _ (λ e. does-give _ f (rw (bo-true f h e) (no-bo f))) λ e.
+      formula-does gives-not f (laid-not (h .sort)) (unknown f h d e) (λ us g. mean-not ns (meaning ns us) x (bo-step g h .is)))
+
+  pub and-does : {ts : List Term} {x y : ℕ} {b c : Bool} → Fit n ts → Bo ns b ts x → Bo ns c ts y → Does l n (andOf x y) ts (Bo ns (b && c)) N
+  unfolding andOf
+  and-does {x = x} {y} {b} {c} f h k =
+      does-read _ _ (does-eq _ _ (λ e. does-give _ f (rw (bo-false f h e) (no-bo f))) λ d. does-eq _ _ (λ e. does-give _ f (rw (bo-true f h e) k)) λ e.
+      does-read _ _ (does-eq _ _ (λ i. does-give _ f (rw (bo-false f k i, and-false b) (no-bo f))) λ i. does-eq _ _ (λ j. does-give _ f (rw (bo-true f k j, and-true b) h)) λ j.
+      does-eq _ _ (λ s. does-give _ f (rw (same-bo h k s, and-self b) h)) λ s.
+      formula-does gives-and f (laid-and (h .sort) (k .sort)) (unknown f h d e) (λ us g. mean-and ns (meaning ns us) x y (bo-step g h .is) (bo-step g k .is))))
+
+  pub or-does : {ts : List Term} {x y : ℕ} {b c : Bool} → Fit n ts → Bo ns b ts x → Bo ns c ts y → Does l n (orOf x y) ts (Bo ns (b || c)) N
+  unfolding orOf
+  or-does {x = x} {y} {b} {c} f h k =
+      does-read _ _ (does-eq _ _ (λ e. does-give _ f (rw (bo-true f h e) (yes-bo f))) λ d. does-eq _ _ (λ e. does-give _ f (rw (bo-false f h e) k)) λ e.
+      does-read _ _ (does-eq _ _ (λ i. does-give _ f (rw (bo-true f k i, or-true b) (yes-bo f))) λ i. does-eq _ _ (λ j. does-give _ f (rw (bo-false f k j, or-false b) h)) λ j.
+      does-eq _ _ (λ s. does-give _ f (rw (same-bo h k s, or-self b) h)) λ s.
+      formula-does gives-or f (laid-or (h .sort) (k .sort)) (unknown f h e d) (λ us g. mean-or ns (meaning ns us) x y (bo-step g h .is) (bo-step g k .is))))
+
+  pub implies-does : {ts : List Term} {x y : ℕ} {b c : Bool} → Fit n ts → Bo ns b ts x → Bo ns c ts y → Does l n (impliesOf x y) ts (Bo ns (not b || c)) N
+  unfolding impliesOf
+  implies-does f h k = does-then (not-does f h) (λ us a g j. or-does (g .fit) j (bo-step g k))
+
+  pub choice-does : {ts : List Term} {g x y : ℕ} {b : Bool} {v w : Value} → Fit n ts → Bo ns b ts g → Is ns v ts x → Is ns w ts y
+      → Does l n (choiceOf g x y) ts (Is ns (pick b v w)) N
+  unfolding choiceOf
+  choice-does {g = g} {x} {y} f h k i =
+      does-read _ _ (does-eq _ _ (λ e. does-give _ f (rw (bo-true f h e) k)) λ d. does-eq _ _ (λ e. does-give _ f (rw (bo-false f h e) i)) λ e.
+      does-weaken f (λ us a s j. record {
+        named = value-of choiceTerm refl refl (there-sort choiceTerm (choice-sort g x y) j);
+        is = there-means ns (s .fit) j ∙ mean-choice ns (meaning ns us) g x y (bo-step s h .is) (is-step s k .is) (is-step s i .is);
+      }) (does-make full f (laid-choice (h .sort) (k .named) (i .named)) (λ c. unknown f h e d c)))
+
+  pub truth-does : {ts : List Term} {x : ℕ} {v : Value} → Fit n ts → Is ns v ts x → Does l n (truthOf x) ts (Bo ns (not (isFalse v))) N
+  unfolding truthOf
+  truth-does {ts} {x} f h =
+      does-read _ _ (does-eq _ _ (λ e. let s = sort-at ts x choiceTerm refl e in formula-does gives-truth f (laid-truth s) (no-choice s)
+      (λ us g. mean-truth ns (meaning ns us) x (is-step g h .is) (is-proper f h))) λ d.
+      does-eq _ _ (λ e. does-give _ f (is-truth f h e)) λ e. does-give _ f (rw (not-false f h d e) (yes-bo f)))
+
+  pub is-word-does : {ts : List Term} {x : ℕ} {v : Value} → Fit n ts → Is ns v ts x → Does l n (isWordOf x) ts (Bo ns (isAWord v)) N
+  unfolding isWordOf
+  is-word-does {ts} {x} f h =
+      does-read _ _ (does-eq _ _ (λ e. let s = sort-at ts x choiceTerm refl e in formula-does gives-is-word f (laid-is-word s) (no-choice s)
+      (λ us g. mean-is-word ns (meaning ns us) x (is-step g h .is))) λ d.
+      does-eq _ _ (λ e. does-give _ f (rw (is-word f h e) (yes-bo f))) λ e. does-give _ f (rw (no-word f h d e) (no-bo f)))
+
+  pub is-procedure-does : {ts : List Term} {x : ℕ} {v : Value} → Fit n ts → Is ns v ts x → Does l n (isProcedureOf x) ts (Bo ns (isAProcedure v)) N
+  unfolding isProcedureOf
+  is-procedure-does {ts} {x} f h =
+      does-read _ _ (does-eq _ _ (λ e. let s = sort-at ts x choiceTerm refl e in formula-does gives-is-procedure f (laid-is-procedure s) (no-choice s)
+      (λ us g. mean-is-procedure ns (meaning ns us) x (is-step g h .is))) λ d.
+      does-eq _ _ (λ e. does-give _ f (rw (is-procedure f h e) (yes-bo f))) λ e. does-give _ f (rw (no-procedure f h d e) (no-bo f)))
+
+  pub word-does : {ts : List Term} (w : ℕ) → Fit n ts → Does l n (makeOf (term wordTerm 0 w 0 0)) ts (Is ns (word w)) N
+  word-does w f =
+      does-weaken f (λ us a s j. record {
+        named = value-of wordTerm refl refl (there-sort wordTerm (word-sort w) j);
+        is = there-means ns (s .fit) j ∙ means-word ns (meaning ns us) (term wordTerm 0 w 0 0) refl;
+      }) (does-make full f (laid-word w) (λ c. word-constant w))
+
+  pub procedure-does : {ts : List Term} {i e b : ℕ} {v : Value} → Fit n ts → i < recordLimit → En ns v ts e → b < n
+      → Does l n (makeOf (term procedureTerm 0 i e b)) ts (Is ns (procedure i v)) N
+  procedure-does {i = i} {e} {b} f k h o =
+      does-weaken f (λ us a s j. record {
+        named = value-of procedureTerm refl refl (there-sort procedureTerm (procedure-sort i e b) j);
+        is = there-means ns (s .fit) j ∙ (means-procedure ns (meaning ns us) (term procedureTerm 0 i e b) refl ∙ ap (procedure i) (en-step s h .is));
+      }) (does-make full f (laid-procedure k (h .sort) o) (λ c. procedure-constant i e b))
+
+  pub binding-does : {ts : List Term} {x e : ℕ} {v w : Value} → Fit n ts → Is ns v ts x → En ns w ts e
+      → Does l n (makeOf (term bindingTerm 0 x e 0)) ts (En ns (binding v w)) N
+  binding-does {x = x} {e} f h k =
+      does-weaken f (λ us a s j. record {
+        sort = there-sort bindingTerm (binding-sort x e) j;
+        is = there-means ns (s .fit) j ∙ (means-binding ns (meaning ns us) (term bindingTerm 0 x e 0) refl ∙ rw (is-step s h .is, en-step s k .is));
+      }) (does-make full f (laid-binding (h .named) (k .sort)) (λ c. binding-constant x e))

@@ -1,0 +1,155 @@
+-- What numbers are held to mean: a truth, a value, a chain of bindings. A value is no binding, and what is known of a truth is so.
+-- Assumes nothing.
+use mathlib.Core.Path.{_≡_, refl, sym, ap, _∙_}
+use mathlib.Core.Bool.{Bool, true, false}
+use mathlib.Core.List.{List, [], _∷_}
+use Prim.Native.Nat.{ℕ, _<_}
+use native.Mathlib.Omega.{arith}
+use lib.ListN.{length}
+use lib.Dec.{eqb}
+use borrow.Author.Tests.{eqb-true, eqb-false}
+use Rattle.notation.specs.Notation.{pick, with, if_equals_then_else_}
+use Rattle.semantics.specs.declared.Term.{Term}
+use Rattle.semantics.specs.Numbers.{truthTerm, choiceTerm, bindingTerm, falseNumber, trueNumber}
+use Rattle.semantics.specs.Terms.{term, at, sortOf, knownOf, namesValue, laidOut, wellFormed}
+use Rattle.semantics.specs.Run.{Value, truth}
+use Rattle.typing.proofs.Grown.{at-lower, at-newest, Sort, Value as Named, sort-grown, value-grown}
+use Rattle.typing.proofs.Formed.{never, choice-names, formed-newest}
+use Rattle.typing.proofs.Steps.{Fit}
+use Rattle.typing.proofs.Factory.{false-truth, true-truth, truth-value}
+use Rattle.soundness.proofs.Means.{isTrue, isProper, termMeaning, meaning, meaning-lower, meaning-newest, meaning-grown}
+use Rattle.soundness.proofs.Steps.{Const, const-at, Step}
+use Rattle.soundness.proofs.BySort.{Kind, constant-truth, constant-word, free-truth, free-word, truth-operator, word-operator, a-choice, a-procedure, a-binding, no-kind, kind-of, means-truth, means-word, means-free-truth, means-free-word, means-operator, means-choice, means-procedure, operator-truth, operator-word, IsTruth, IsWord, constant-kind, means-at, there-means, truth-means}
+
+-- ---- a value is no binding
+module _ (ts : List Term) (x : ℕ) (h : namesValue ts x ≡ true) where
+  pub named-some : sortOf (at ts x) ≡ 0 → ⊥
+  unfolding namesValue with if_equals_then_else_
+  named-some e = never (rw e at h)
+
+  pub named-other : sortOf (at ts x) ≡ bindingTerm → ⊥
+  unfolding namesValue with if_equals_then_else_
+  named-other e = never (rw e at h)
+
+truth-proper : {v : Value} → IsTruth v → isProper v ≡ true
+truth-proper h = ap isProper (h .is)
+
+word-proper : {v : Value} → IsWord v → isProper v ≡ true
+word-proper h = ap isProper (h .is)
+
+module _ (ns : List ℕ) (f : ℕ → Value) (t : Term) where
+  term-proper : (k : ℕ) → (k ≡ 0 → ⊥) → (k ≡ bindingTerm → ⊥)
+      → (t .kind ≡ choiceTerm → isProper (f (t .b)) ≡ true × isProper (f (t .c)) ≡ true) → Kind t k → isProper (termMeaning ns f t) ≡ true
+  term-proper k z b c (constant-truth i) = ap isProper (means-truth ns f t i)
+  term-proper k z b c (constant-word i) = ap isProper (means-word ns f t i)
+  term-proper k z b c (free-truth i) = ap isProper (means-free-truth ns f t i)
+  term-proper k z b c (free-word i) = ap isProper (means-free-word ns f t i)
+  term-proper k z b c (truth-operator i j) = ap isProper (means-operator ns f t i) ∙ truth-proper (operator-truth (t .op) (f (t .a)) (f (t .b)) j)
+  term-proper k z b c (word-operator i j) = ap isProper (means-operator ns f t i) ∙ word-proper (operator-word (t .op) (f (t .a)) (f (t .b)) j)
+  term-proper k z b c (a-choice i) = ap isProper (means-choice ns f t i) ∙ go (isTrue (f (t .a))) (c i)
+    where
+      go : (e : Bool) → isProper (f (t .b)) ≡ true × isProper (f (t .c)) ≡ true → isProper (pick e (f (t .b)) (f (t .c))) ≡ true
+      go true e = e .0
+      go false e = e .1
+  term-proper k z b c (a-procedure i) = ap isProper (means-procedure ns f t i)
+  term-proper k z b c (a-binding i) = absurd (b refl)
+  term-proper k z b c no-kind = absurd (z refl)
+
+named-lower : {t : Term} {ts : List Term} {x : ℕ} → Named (t ∷ ts) x → x < length ts → Named ts x
+unfolding namesValue
+named-lower {t} {ts} {x} k i = record { is = rw (at-lower t ts x i) at (k .is); low = i }
+
+proper-at : (ns : List ℕ) (n : ℕ) (ts : List Term) (x : ℕ) → wellFormed n ts ≡ true → Named ts x → isProper (meaning ns ts x) ≡ true
+proper-at ns n [] x h k = let l = k .low in absurd (omega arith)
+proper-at ns n (t ∷ ts) x h k = formed-newest n t ts h λ p u v. go p (eqb x (length ts)) refl (λ y i. proper-at ns n ts y v i)
+  where
+    go : laidOut n ts t ≡ true → (b : Bool) → eqb x (length ts) ≡ b → ((y : ℕ) → Named ts y → isProper (meaning ns ts y) ≡ true)
+        → isProper (meaning ns (t ∷ ts) x) ≡ true
+    go p true e r =
+        let i : x ≡ length ts = eqb-true x (length ts) e in
+        let j : at (t ∷ ts) x ≡ t = ap (at (t ∷ ts)) i ∙ at-newest t ts in
+        ap (λ y. isProper (meaning ns (t ∷ ts) y)) i ∙ (ap isProper (meaning-newest ns t ts) ∙
+        term-proper ns (meaning ns ts) t (sortOf t) (λ z. named-some (t ∷ ts) x (k .is) (ap sortOf j ∙ z)) (λ z. named-other (t ∷ ts) x (k .is) (ap sortOf j ∙ z))
+        (λ z. let c = choice-names n ts t p z in (r (t .b) (c .1), r (t .c) (c .2))) (kind-of t))
+    go p false e r =
+        let l = k .low in
+        let i : x < length ts = omega (arith, eqb-false x (length ts) e) in
+        ap isProper (meaning-lower ns t ts x (λ z. omega arith)) ∙ r x (named-lower k i)
+
+-- ---- what a number is held to mean
+pub record Bo (ns : List ℕ) (b : Bool) (ts : List Term) (x : ℕ) : Type 0 where
+  pub sort : Sort truthTerm ts x
+  pub is : meaning ns ts x ≡ truth b
+
+pub record Is (ns : List ℕ) (v : Value) (ts : List Term) (x : ℕ) : Type 0 where
+  pub named : Named ts x
+  pub is : meaning ns ts x ≡ v
+
+pub record En (ns : List ℕ) (v : Value) (ts : List Term) (x : ℕ) : Type 0 where
+  pub sort : Sort bindingTerm ts x
+  pub is : meaning ns ts x ≡ v
+
+module _ {ns : List ℕ} {n : ℕ} {ts us : List Term} (g : Step n ts us) where
+  pub bo-step : {b : Bool} {x : ℕ} → Bo ns b ts x → Bo ns b us x
+  bo-step {x = x} h = record { sort = sort-grown (g .grown) (h .sort); is = meaning-grown ns x (g .grown) (h .sort .low) ∙ h .is }
+
+  pub is-step : {v : Value} {x : ℕ} → Is ns v ts x → Is ns v us x
+  is-step {x = x} h = record { named = value-grown (g .grown) (h .named); is = meaning-grown ns x (g .grown) (h .named .low) ∙ h .is }
+
+  pub en-step : {v : Value} {x : ℕ} → En ns v ts x → En ns v us x
+  en-step {x = x} h = record { sort = sort-grown (g .grown) (h .sort); is = meaning-grown ns x (g .grown) (h .sort .low) ∙ h .is }
+
+pub bo-is : {ns : List ℕ} {ts : List Term} {b : Bool} {x : ℕ} → Bo ns b ts x → Is ns (truth b) ts x
+bo-is h = record { named = truth-value (h .sort); is = h .is }
+
+pub is-proper : {ns : List ℕ} {n : ℕ} {ts : List Term} {v : Value} {x : ℕ} → Fit n ts → Is ns v ts x → isProper v ≡ true
+is-proper {ns} {n} {ts} {v} {x} f h = ap isProper (sym (h .is)) ∙ proper-at ns n ts x (f .formed) (h .named)
+
+-- ---- the two constants
+module _ {ns : List ℕ} {n : ℕ} {ts : List Term} (f : Fit n ts) where
+  pub no-bo : Bo ns false ts falseNumber
+  no-bo = record { sort = false-truth f; is = there-means ns f (f .no) ∙ means-truth ns (meaning ns ts) (term truthTerm 0 0 0 0) refl }
+
+  pub yes-bo : Bo ns true ts trueNumber
+  yes-bo = record { sort = true-truth f; is = there-means ns f (f .yes) ∙ means-truth ns (meaning ns ts) (term truthTerm 0 1 0 0) refl }
+
+  -- any truth means one or the other
+  pub some-bo : {x : ℕ} → Sort truthTerm ts x → Bo ns (isTrue (meaning ns ts x)) ts x
+  some-bo h = record { sort = h; is = truth-means ns f h .is }
+
+-- ---- what is known of a truth
+by-case : {P : Type 0} (b : Bool) (x y : ℕ) {m : ℕ} → pick b x y ≡ m → (b ≡ true → x ≡ m → P) → (b ≡ false → y ≡ m → P) → P
+by-case true x y h f g = f refl h
+by-case false x y h f g = g refl h
+
+module _ (ns : List ℕ) (f : ℕ → Value) (t : Term) where
+  known-false : knownOf t ≡ 0 → termMeaning ns f t ≡ truth false
+  unfolding knownOf if_equals_then_else_
+  known-false h =
+      by-case (eqb (t .kind) truthTerm) _ _ h (λ i h. by-case (eqb (t .a) 0) _ _ h (λ j k. means-truth ns f t (eqb-true _ _ i) ∙ rw j) (λ j k. absurd (omega arith)))
+      (λ i h. absurd (omega arith))
+
+  known-true : knownOf t ≡ 1 → termMeaning ns f t ≡ truth true
+  unfolding knownOf if_equals_then_else_
+  known-true h =
+      by-case (eqb (t .kind) truthTerm) _ _ h (λ i h. by-case (eqb (t .a) 0) _ _ h (λ j k. absurd (omega arith)) (λ j k. means-truth ns f t (eqb-true _ _ i) ∙ rw j))
+      (λ i h. absurd (omega arith))
+
+known-some : {P : Type 0} (t : Term) → t .kind ≡ truthTerm → (knownOf t ≡ 0 → ⊥) → (knownOf t ≡ 1 → ⊥) → P
+unfolding knownOf if_equals_then_else_
+known-some {P} t k a b = go (eqb (t .a) 0) refl
+  where
+    go : (c : Bool) → eqb (t .a) 0 ≡ c → P
+    go true e = absurd (a (rw (k, e)))
+    go false e = absurd (b (rw (k, e)))
+
+module _ {ns : List ℕ} {n : ℕ} {ts : List Term} {x : ℕ} {b : Bool} (f : Fit n ts) (h : Bo ns b ts x) where
+  pub bo-false : knownOf (at ts x) ≡ 0 → b ≡ false
+  bo-false e = ap isTrue (sym (h .is) ∙ (means-at ns f x (h .sort .low) ∙ known-false ns (meaning ns ts) (at ts x) e))
+
+  pub bo-true : knownOf (at ts x) ≡ 1 → b ≡ true
+  bo-true e = ap isTrue (sym (h .is) ∙ (means-at ns f x (h .sort .low) ∙ known-true ns (meaning ns ts) (at ts x) e))
+
+  -- a truth that is not known is no constant
+  pub unknown : {P : Type 0} → (knownOf (at ts x) ≡ 0 → ⊥) → (knownOf (at ts x) ≡ 1 → ⊥) → Const ts → P
+  unknown a c k = known-some (at ts x) (constant-kind (at ts x) (const-at ts x k (h .sort .low)) (h .sort .is)) a c

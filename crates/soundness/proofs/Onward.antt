@@ -1,0 +1,108 @@
+-- One rule more: if what is read of the last result is what the run of the rules before gave, then what is read of the next one is what the run
+-- goes on to give; a halted session stays as it was. Assumes nothing.
+use mathlib.Core.Path.{_≡_, refl, sym, ap, _∙_}
+use mathlib.Core.Bool.{Bool, true, false, _&&_}
+use mathlib.Core.List.{List, [], _∷_}
+use Prim.Native.Nat.{ℕ, suc, _+_, _≤_}
+use native.Mathlib.Omega.{arith}
+use lib.ListN.{length, getD-replicate}
+use lib.Dec.{eqb}
+use Rattle.notation.specs.Notation.{pick, if_equals_then_else_}
+use Rattle.semantics.specs.declared.Term.{Term}
+use Rattle.semantics.specs.declared.Input.{Input}
+use Rattle.semantics.specs.declared.Result.{Result}
+use Rattle.semantics.specs.Numbers.{inputCount, recordLimit, depthSpent, constantTruth, constantWord, freeTruth}
+use Rattle.semantics.specs.Records.{recordsIn}
+use Rattle.semantics.specs.Rules.{bindingsBelow, ruleRefusalOf}
+use Rattle.semantics.specs.Steps.{settingOf, gave, refused}
+use Rattle.semantics.specs.States.{haltOf}
+use Rattle.semantics.specs.Evaluation.{evalOf}
+use Rattle.semantics.specs.Run.{Value, truth, word, Ended, gives, aborts, errs, spends, after, runOf, inputValue, inputsBound}
+use Rattle.semantics.specs.History.{ranOn}
+use Rattle.typing.proofs.Formed.{never}
+use Rattle.typing.proofs.Steps.{Fit}
+use Rattle.typing.proofs.Evaluation.{Ruled}
+use Rattle.soundness.proofs.Steps.{Const}
+use Rattle.soundness.proofs.Held.{En}
+use Rattle.soundness.proofs.Sim.{ends, on, afterSeen, on-after, on-off, on-live, ends-same, totalOf, Sim, sim-halt, sim-as}
+use Rattle.soundness.proofs.Readout.{Done, evaluation-done, evaluation-spent}
+use Rattle.soundness.proofs.Scope.{bound, Good, run-agrees}
+use Rattle.soundness.proofs.Scoping.{needOf, few-some, scoped}
+
+-- ---- the inputs are truths and words, sixteen of them
+module _ (rule : List ℕ) (n : ℕ) (need : ℕ → ℕ) where
+  input-good : (x : Input) (k : ℕ) → Good rule n need (inputValue x k)
+  unfolding inputValue if_equals_then_else_
+  input-good x k = go (eqb (x .kind) constantTruth) (eqb (x .kind) constantWord) (eqb (x .kind) freeTruth)
+    where
+      go : (a b c : Bool) → Good rule n need (pick a (truth (eqb (x .value) 1)) (pick b (word (x .value)) (pick c (truth (eqb k 1)) (word k))))
+      go true b c = tt
+      go false true c = tt
+      go false false true = tt
+      go false false false = tt
+
+  inputs-good : (xs : List Input) (ns : List ℕ) → Good rule n need (inputsBound xs ns)
+  unfolding inputsBound
+  inputs-good [] ns = tt
+  inputs-good (x ∷ xs) [] = tt
+  inputs-good (x ∷ xs) (k ∷ ns) = (input-good x k, inputs-good xs ns)
+
+inputs-bound : (xs : List Input) (ns : List ℕ) → length xs ≤ length ns → bound (inputsBound xs ns) ≡ length xs
+unfolding inputsBound
+inputs-bound [] ns h = refl
+inputs-bound (x ∷ xs) [] h = absurd (omega arith)
+inputs-bound (x ∷ xs) (k ∷ ns) h = ap suc (inputs-bound xs ns (omega arith))
+
+-- no bindings stand over record 0
+none-needed : (s : List ℕ) → needOf s 0 ≡ 0
+unfolding bindingsBelow
+none-needed s = getD-replicate {A = ℕ} recordLimit 0 0 0 (omega arith)
+
+-- A rule that passes the tests runs from the inputs as the concrete run does.
+pub rule-runs : (s : List ℕ) → ruleRefusalOf s ≡ 0 → (xs : List Input) (ns : List ℕ) → length xs ≡ inputCount → inputCount ≤ length ns
+    → (d : ℕ) → totalOf s d 0 (inputsBound xs ns) ≡ runOf s d 0 (inputsBound xs ns)
+rule-runs s h xs ns l m d =
+    let z = none-needed s in let b = inputs-bound xs ns (omega arith) in
+    run-agrees s (recordsIn s) (needOf s) (scoped s h) d 0 (inputsBound xs ns) (few-some s h) (omega arith) (inputs-good s (recordsIn s) (needOf s) xs ns) .same
+
+-- ---- the run so far
+stopped : (s t : Bool) (v : Value) (o : Ended) → (s && t) ≡ false → on s t (gives v) ≡ ends o → (K : Value → Ended) → after o K ≡ o
+unfolding after
+stopped true true v o d e K = never (sym d)
+stopped true false v o d e K = let i : errs ≡ o = ends-same e in rw (sym i)
+stopped false true v o d e K = let i : aborts ≡ o = ends-same e in rw (sym i)
+stopped false false v o d e K = let z : _≡_ {A = ℕ} 0 1 = cc in absurd (omega arith)
+
+goes-on : (s t : Bool) (v : Value) (o p : Ended) → on s t (gives v) ≡ ends o → on s t p ≡ ends (after o (λ _. p))
+unfolding after
+goes-on s t v o p e = sym (on-after s t (gives v) (λ _. p)) ∙ ap (λ u. afterSeen u (λ _. p)) e
+
+module _ {ns : List ℕ} (xs : List Input) (l : length xs ≡ inputCount) (m : inputCount ≤ length ns) (rule : List ℕ) (h : ruleRefusalOf rule ≡ 0) (ruled : Ruled rule)
+    {ts : List Term} {r : Result} {o : Ended} (sim : Sim ns (ends o) ts r) where
+  -- a halted session answers the same halt
+  pub halted-on : {n : ℕ} (d : ℕ) → Fit n ts → r .halted ≡ true → Sim ns (ends (ranOn (inputsBound xs ns) o rule d)) ts (haltOf (r .state))
+  unfolding ranOn
+  halted-on d f q =
+      let k = sim .dead q in
+      sim-halt f (sim .st) k (λ w. on-off (sim .s) (sim .t) (gives w) (gives (sim .v)) k ∙
+      (sim .sees ∙ ap ends (sym (stopped (sim .s) (sim .t) (sim .v) o k (sim .sees) (λ _. runOf rule d 0 (inputsBound xs ns))))))
+
+  module _ (b e : ℕ) (f : Fit (b + 1) ts) (env : En ns (inputsBound xs ns) ts e) (size : ℕ) where
+    -- a rule that is evaluated: its result reads as the run goes on at the reported depth
+    pub ran-on : (d : ℕ) {us : List Term} {w : Result} {u : ℕ} → evalOf rule b d 0 e (r .state) (settingOf size) ts ≡ gave us w u
+        → Done (b + 1) ts (Sim ns (ends (ranOn (inputsBound xs ns) o rule u))) us w
+    unfolding ranOn
+    ran-on d {us} {w} {u} q =
+        let x = evaluation-done ruled b size 0 e f env (sim .st) d q in
+        record {
+          step = x .step;
+          holds = sim-as (ap (on (sim .s) (sim .t)) (rule-runs rule h xs ns l m u) ∙ goes-on (sim .s) (sim .t) (sim .v) o (runOf rule u 0 (inputsBound xs ns)) (sim .sees)) (x .holds);
+        }
+
+    -- With constants alone, a refusal for depth is exact: the run with that depth spends it.
+    pub ran-out : (d : ℕ) → r .halted ≡ false → Const ts → evalOf rule b d 0 e (r .state) (settingOf size) ts ≡ refused depthSpent → ranOn (inputsBound xs ns) o rule d ≡ spends
+    unfolding ranOn
+    ran-out d q c z =
+        let k = sim .live q c in
+        let i : runOf rule d 0 (inputsBound xs ns) ≡ spends = sym (rule-runs rule h xs ns l m d) ∙ evaluation-spent ruled b size 0 e f env (sim .st) d z c k in
+        ends-same (sym (goes-on (sim .s) (sim .t) (sim .v) o (runOf rule d 0 (inputsBound xs ns)) (sim .sees)) ∙ (on-live (sim .s) (sim .t) (runOf rule d 0 (inputsBound xs ns)) k ∙ ap ends i))

@@ -1,0 +1,177 @@
+-- An operator's term means what the operator gives on what its operands mean; on words that are constants it is worked out. Assumes nothing.
+use mathlib.Core.Path.{_≡_, refl, sym, ap, _∙_}
+use mathlib.Core.Bool.{Bool, true, false}
+use mathlib.Core.List.{List}
+use Prim.Native.Nat.{ℕ, _<_, _≤_}
+use native.Mathlib.Omega.{arith}
+use lib.ListN.{length}
+use lib.Dec.{eqb, ltb}
+use borrow.Author.Tests.{eqb-true, eqb-false, ne-eqb, lt-ltb}
+use Rattle.notation.specs.Notation.{pick, bit, if_then_else_, if_equals_then_else_, if_below_then_else_}
+use Rattle.operators.specs.Operators.{operandsOf, givesTruthOf, rowOf, operateOf}
+use Rattle.semantics.specs.declared.Term.{Term}
+use Rattle.semantics.specs.Numbers.{wordTerm, operatorTerm, notCode, tableFull}
+use Rattle.semantics.specs.Terms.{term, at, sortOf}
+use Rattle.semantics.specs.Steps.{makeOf}
+use Rattle.semantics.specs.Factory.{constantOf, operatorTermOf}
+use Rattle.semantics.specs.Run.{Value, truth, word, isAWord, wordIn, operationValue, wordsRun}
+use Rattle.typing.proofs.Grown.{grown-length}
+use Rattle.typing.proofs.Formed.{never}
+use Rattle.typing.proofs.Steps.{Fit}
+use Rattle.typing.proofs.Factory.{Operands}
+use Rattle.soundness.proofs.Means.{operatorMeaning, meaning, meaning-grown}
+use Rattle.soundness.proofs.Steps.{isConstant, Const, const-at, Step, Does, does-give, does-weaken, does-read, does-with, does-if, does-eq, does-make}
+use Rattle.soundness.proofs.BySort.{Kind, constant-truth, constant-word, free-truth, free-word, truth-operator, word-operator, a-choice, a-procedure, a-binding, no-kind, kind-of, means-word, means-at, there-means, truth-means, procedure-means}
+use Rattle.soundness.proofs.Held.{Is, bo-is, is-step, no-bo, yes-bo}
+use Rattle.soundness.proofs.Factory.{laid-operator, mean-operator, operator-named, no-choice, by-sort, word-does}
+
+-- ---- what the operators give
+-- an operator that gives a truth is none of those that give words
+other : (op k : ℕ) → givesTruthOf op ≡ true → givesTruthOf k ≡ false → eqb op k ≡ false
+other op k h e = ne-eqb op k (λ i. never (sym e ∙ (ap givesTruthOf (sym i) ∙ h)))
+
+-- and then it gives 0 or 1
+pub truth-bit : (op x y : ℕ) → givesTruthOf op ≡ true → operateOf op x y ≡ pick (eqb op 11) (bit (ltb x y)) (bit (eqb x y))
+unfolding operateOf if_equals_then_else_ givesTruthOf rowOf
+truth-bit op x y h =
+    rw (other op 1 h refl, other op 2 h refl, other op 3 h refl, other op 4 h refl, other op 5 h refl, other op 6 h refl, other op 7 h refl, other op 8 h refl, other op 9 h refl, other op 10 h refl)
+
+-- one with one operand is none of the others
+differs : (op k m : ℕ) → operandsOf op ≡ 1 → operandsOf k ≡ m → (m ≡ 1 → ⊥) → op ≡ k → ⊥
+differs op k m h e d i = d (sym e ∙ (ap operandsOf (sym i) ∙ h))
+
+-- the two codes that have one
+from-three : (op : ℕ) → operandsOf op ≡ 1 → 3 ≤ op
+unfolding operandsOf rowOf
+from-three op h = omega (arith, differs op 0 0 h refl (λ i. omega arith), differs op 1 2 h refl (λ i. omega arith), differs op 2 2 h refl (λ i. omega arith))
+
+from-six : (op : ℕ) → operandsOf op ≡ 1 → 6 ≤ op
+unfolding operandsOf rowOf
+from-six op h = let l = from-three op h in omega (arith, differs op 3 2 h refl (λ i. omega arith), differs op 4 2 h refl (λ i. omega arith), differs op 5 2 h refl (λ i. omega arith))
+
+from-nine : (op : ℕ) → operandsOf op ≡ 1 → 9 ≤ op
+unfolding operandsOf rowOf
+from-nine op h = let l = from-six op h in omega (arith, differs op 6 2 h refl (λ i. omega arith), differs op 7 2 h refl (λ i. omega arith), differs op 8 2 h refl (λ i. omega arith))
+
+only-two : (op : ℕ) → op < notCode → operandsOf op ≡ 1 → (op ≡ 9 → ⊥) → op ≡ 10
+unfolding operandsOf rowOf
+only-two op l h e = let k = from-nine op h in omega (arith, e, differs op 11 2 h refl (λ i. omega arith), differs op 12 2 h refl (λ i. omega arith))
+
+-- and they do not look at a second
+pub one-operand : (op x y z : ℕ) → op < notCode → operandsOf op ≡ 1 → operateOf op x y ≡ operateOf op x z
+unfolding operateOf if_equals_then_else_
+one-operand op x y z l h = go (eqb op 9) refl
+  where
+    go : (b : Bool) → eqb op 9 ≡ b → operateOf op x y ≡ operateOf op x z
+    go true e = rw (eqb-true op 9 e)
+    go false e = rw (only-two op l h (eqb-false op 9 e))
+
+pub one-value : (op x y z : ℕ) → op < notCode → operandsOf op ≡ 1 → operationValue op x y ≡ operationValue op x z
+unfolding operationValue
+one-value op x y z l h = rw (one-operand op x y z l h)
+
+pub operation-truth : (op x y : ℕ) → givesTruthOf op ≡ true → operationValue op x y ≡ truth (eqb (operateOf op x y) 1)
+unfolding operationValue if_then_else_
+operation-truth op x y h = rw h
+
+pub operation-word : (op x y : ℕ) → givesTruthOf op ≡ false → operationValue op x y ≡ word (operateOf op x y)
+unfolding operationValue if_then_else_
+operation-word op x y h = rw h
+
+module _ (op : ℕ) (v w : Value) where
+  pub operator-words : op < notCode → wordsRun op v w ≡ true → operatorMeaning op v w ≡ operationValue op (wordIn v) (wordIn w)
+  unfolding operatorMeaning if_below_then_else_ if_then_else_
+  operator-words l h = rw (lt-ltb op notCode l, h)
+
+  pub words-one : isAWord v ≡ true → operandsOf op ≡ 1 → wordsRun op v w ≡ true
+  unfolding wordsRun if_then_else_ if_equals_then_else_
+  words-one h e = rw (h, e)
+
+  pub words-two : isAWord v ≡ true → isAWord w ≡ true → wordsRun op v w ≡ true
+  unfolding wordsRun if_then_else_ if_equals_then_else_
+  words-two h k = rw (h, k) (go (eqb (operandsOf op) 1))
+    where
+      go : (b : Bool) → pick b true true ≡ true
+      go true = refl
+      go false = refl
+
+  pub words-first : wordsRun op v w ≡ true → isAWord v ≡ true
+  unfolding wordsRun if_then_else_
+  words-first h = go (isAWord v) refl
+    where
+      go : (b : Bool) → isAWord v ≡ b → isAWord v ≡ true
+      go true e = e
+      go false e = never (rw e at h)
+
+  pub words-second : wordsRun op v w ≡ true → (operandsOf op ≡ 1 → ⊥) → isAWord w ≡ true
+  unfolding wordsRun if_then_else_ if_equals_then_else_
+  words-second h d = rw (words-first h, ne-eqb _ _ d) at h
+
+-- ---- a constant that is a word
+module _ (t : Term) where
+  constant-word-kind : isConstant t ≡ true → (k : ℕ) → k ≡ wordTerm → Kind t k → t .kind ≡ wordTerm
+  unfolding isConstant if_equals_then_else_
+  constant-word-kind c k e (constant-truth i) = absurd (omega arith)
+  constant-word-kind c k e (constant-word i) = i
+  constant-word-kind c k e (free-truth i) = absurd (omega arith)
+  constant-word-kind c k e (free-word i) = never (rw i at c)
+  constant-word-kind c k e (truth-operator i j) = absurd (omega arith)
+  constant-word-kind c k e (word-operator i j) = never (rw i at c)
+  constant-word-kind c k e (a-choice i) = absurd (omega arith)
+  constant-word-kind c k e (a-procedure i) = absurd (omega arith)
+  constant-word-kind c k e (a-binding i) = absurd (omega arith)
+  constant-word-kind c k e no-kind = absurd (omega arith)
+
+-- what a number means is a word, and all are constants
+word-constant-kind : {ns : List ℕ} {n : ℕ} {ts : List Term} {x : ℕ} {v : Value} → Fit n ts → Is ns v ts x → Const ts → isAWord v ≡ true → at ts x .kind ≡ wordTerm
+unfolding isAWord
+word-constant-kind {ns} {n} {ts} {x} {v} f h c w =
+    by-sort (h .named) (λ s. never (sym (ap isAWord (sym (h .is) ∙ truth-means ns f s .is)) ∙ w))
+    (λ s. constant-word-kind (at ts x) (const-at ts x c (s .low)) (sortOf (at ts x)) (s .is) (kind-of (at ts x)))
+    (λ s. no-choice s c) (λ s. never (sym (ap isAWord (sym (h .is) ∙ procedure-means ns f s)) ∙ w))
+
+-- a word constant
+word-at : (ns : List ℕ) {n : ℕ} {ts : List Term} (x : ℕ) {v : Value} → Fit n ts → x < length ts → meaning ns ts x ≡ v → at ts x .kind ≡ wordTerm → v ≡ word (at ts x .a)
+word-at ns {ts = ts} x f l h k = sym h ∙ (means-at ns f x l ∙ means-word ns (meaning ns ts) (at ts x) k)
+
+-- the second operand, if there is one
+pub record Second (ns : List ℕ) (v : Value) (ts : List Term) (x : ℕ) : Type 0 where
+  pub low : x < length ts
+  pub is : meaning ns ts x ≡ v
+
+pub second-step : {ns : List ℕ} {n : ℕ} {ts us : List Term} {v : Value} {x : ℕ} → Step n ts us → Second ns v ts x → Second ns v us x
+second-step {ns} {x = x} g h = let l = grown-length (g .grown) in let k = h .low in record { low = omega arith; is = meaning-grown ns x (g .grown) (h .low) ∙ h .is }
+
+bit-is : {ns : List ℕ} {n : ℕ} {ts : List Term} → Fit n ts → (b : Bool) → Is ns (truth (eqb (bit b) 1)) ts (bit b)
+bit-is f true = bo-is (yes-bo f)
+bit-is f false = bo-is (no-bo f)
+
+module _ {l n : ℕ} {N : ℕ → Type 0} (full : N tableFull) {ns : List ℕ} {ts : List Term} (f : Fit n ts) where
+  constant-does : (op x y : ℕ) → Does l n (constantOf op (operateOf op x y)) ts (Is ns (operationValue op x y)) N
+  unfolding constantOf
+  constant-does op x y =
+      does-with _ _ (does-if (givesTruthOf op)
+      (λ e. does-give _ f (rw (operation-truth op x y e, truth-bit op x y e) (go (eqb op 11))))
+      (λ e. rw (operation-word op x y e) (word-does full (operateOf op x y) f)))
+    where
+      go : (b : Bool) → Is ns (truth (eqb (pick b (bit (ltb x y)) (bit (eqb x y))) 1)) ts (pick b (bit (ltb x y)) (bit (eqb x y)))
+      go true = bit-is f (ltb x y)
+      go false = bit-is f (eqb x y)
+
+  pub operator-does : {op a b : ℕ} {v w : Value} → Operands ts op a b → Is ns v ts a → Second ns w ts b → ((operandsOf op ≡ 1 → ⊥) → Is ns w ts b)
+      → (Const ts → wordsRun op v w ≡ true) → Does l n (operatorTermOf op a b) ts (Is ns (operatorMeaning op v w)) N
+  unfolding operatorTermOf wordIn isAWord
+  operator-does {op} {a} {b} {v} {w} h x y z c =
+      does-read _ _ (does-eq _ _ (λ e. let i : v ≡ word (at ts a .a) = word-at ns a f (x .named .low) (x .is) e in
+      does-with _ _ (does-eq _ _ (λ d. does-with _ _ (rw (operator-words op v w (h .few) (words-one op v w (ap isAWord i) d), i, one-value op (at ts a .a) (wordIn w) 0 (h .few) d) (constant-does op _ 0))) λ d.
+      does-read _ _ (does-eq _ _ (λ k. let j : w ≡ word (at ts b .a) = word-at ns b f (y .low) (y .is) k in
+      does-with _ _ (rw (operator-words op v w (h .few) (words-two op v w (ap isAWord i) (ap isAWord j)), i, j) (constant-does op _ _))) λ k.
+      made (λ q. absurd (k (word-constant-kind f (z d) q (words-second op v w (c q) d)))))))
+      λ e. made (λ q. absurd (e (word-constant-kind f x q (words-first op v w (c q))))))
+    where
+      made : (Const ts → isConstant (term operatorTerm op a b 0) ≡ true) → Does l n (makeOf (term operatorTerm op a b 0)) ts (Is ns (operatorMeaning op v w)) N
+      made q =
+          does-weaken f (λ us k s j. record {
+            named = operator-named j;
+            is = there-means ns (s .fit) j ∙ mean-operator ns (meaning ns us) op a b (is-step s x .is) (second-step s y .is);
+          }) (does-make full f (laid-operator h) q)

@@ -1,0 +1,270 @@
+-- A rule that passes the tests 4 to 7 has its places in scope: each record but the first is told its bindings by the one record that it is a
+-- part of. Assumes nothing.
+use mathlib.Core.Path.{_≡_, refl, sym, ap, _∙_}
+use mathlib.Core.Bool.{Bool, true, false, not, _||_}
+use mathlib.Core.List.{List, [], _∷_}
+use Prim.Native.Nat.{ℕ, zero, suc, _+_, _%_, _<_, _≤_}
+use native.Mathlib.Omega.{arith}
+use lib.ListN.{length, getD, set, length-set, length-replicate}
+use lib.Dec.{eqb, ltb}
+use borrow.Author.Tests.{eqb-true, eqb-false, eq-eqb, ne-eqb, ltb-true, ltb-false}
+use Rattle.notation.specs.Notation.{pick, with, if_then_else_, if_equals_then_else_, unless_then_else_}
+use Rattle.operators.specs.Operators.{operandsOf}
+use Rattle.semantics.specs.declared.Record.{Record}
+use Rattle.semantics.specs.Numbers.{variableRecord, procedureRecord, callRecord, operatorRecord, letRecord, ifRecord, inputCount, recordLimit, ruleBytes, ruleSize, badRecord, badTree, badPlace}
+use Rattle.semantics.specs.Records.{recordAt, recordsIn}
+use Rattle.semantics.specs.Rules.{upTo, every, badRuleSize, shapedOf, Part, part, partsOf, insideOf, timesIn, timesBelow, onceOf, linkedOf, placesOf, toldOf, bindingsBelow, scopedOf, testsOf, ruleRefusalOf}
+use Rattle.typing.proofs.Formed.{never, both, by-test}
+use Rattle.soundness.proofs.Scope.{Under, Scoped}
+
+-- ---- lists
+data In {A : Type 0} (x : A) : List A → Type 0 where
+  here : {xs : List A} → In x (x ∷ xs)
+  there : {y : A} {xs : List A} → In x xs → In x (y ∷ xs)
+
+every-in : {A : Type 0} (f : A → Bool) {x : A} (xs : List A) → every f xs ≡ true → In x xs → f x ≡ true
+unfolding every if_then_else_
+every-in f (x ∷ xs) h here = by-test (f x) (every f xs) false h (λ i e. i) (λ i e. never e)
+every-in f (y ∷ xs) h (there i) = by-test (f y) (every f xs) false h (λ _ e. every-in f xs e i) (λ _ e. never e)
+
+set-same : (m : List ℕ) (i a : ℕ) → i < length m → getD (set m i a) i 0 ≡ a
+set-same [] i a h = absurd (omega arith)
+set-same (x ∷ xs) zero a h = refl
+set-same (x ∷ xs) (suc i) a h = set-same xs i a (omega arith)
+
+set-other : (m : List ℕ) (i j a : ℕ) → (j ≡ i → ⊥) → getD (set m i a) j 0 ≡ getD m j 0
+set-other [] i j a h = refl
+set-other (x ∷ xs) zero zero a h = absurd (h refl)
+set-other (x ∷ xs) zero (suc j) a h = refl
+set-other (x ∷ xs) (suc i) zero a h = refl
+set-other (x ∷ xs) (suc i) (suc j) a h = set-other xs i j a (λ e. h (ap suc e))
+
+up-at : (n : ℕ) (f : ℕ → Bool) → upTo n f ≡ true → (i : ℕ) → i < n → f i ≡ true
+unfolding upTo if_then_else_
+up-at zero f h i l = absurd (omega arith)
+up-at (suc n) f h i l = by-test (upTo n f) (f n) false h (λ a b. go a b (eqb i n) refl (λ k. up-at n f a i k)) (λ a b. never b)
+  where
+    go : upTo n f ≡ true → f n ≡ true → (c : Bool) → eqb i n ≡ c → (i < n → f i ≡ true) → f i ≡ true
+    go a b true e r = ap f (eqb-true i n e) ∙ b
+    go a b false e r = r (omega (arith, eqb-false i n e))
+
+-- ---- what a record tells its parts
+module _ (c : ℕ) where
+  times-here : (p : Part) (ps : List Part) → c ≡ p .child → timesIn c (p ∷ ps) ≡ 1 + timesIn c ps
+  unfolding timesIn if_equals_then_else_
+  times-here p ps e = rw (eq-eqb c (p .child) e)
+
+  times-there : (p : Part) (ps : List Part) → timesIn c ps ≤ timesIn c (p ∷ ps)
+  unfolding timesIn
+  times-there p ps = omega arith
+
+  in-times : {m : ℕ} (ps : List Part) → In (part c m) ps → 1 ≤ timesIn c ps
+  in-times {m} (p ∷ ps) here = let e = times-here (part c m) ps refl in omega arith
+  in-times (p ∷ ps) (there i) = let r = in-times ps i in let t = times-there p ps in omega arith
+
+  -- another's part
+  other : (p : Part) (ps : List Part) (k : ℕ) → timesIn c (p ∷ ps) ≤ k → k ≤ timesIn c ps → c ≡ p .child → ⊥
+  other p ps k h l e = let t = times-here p ps e in omega arith
+
+  told-out : (d : ℕ) (ps : List Part) (m : List ℕ) → timesIn c ps ≡ 0 → getD (toldOf d ps m) c 0 ≡ getD m c 0
+  unfolding toldOf
+  told-out d [] m h = refl
+  told-out d (p ∷ ps) m h =
+      let t = times-there p ps in
+      told-out d ps (set m (p .child) (d + p .more)) (omega arith) ∙ set-other m (p .child) c (d + p .more) (other p ps 0 (omega arith) (omega arith))
+
+  told-in : (d : ℕ) {k : ℕ} (ps : List Part) (m : List ℕ) → In (part c k) ps → timesIn c ps ≤ 1 → c < length m → getD (toldOf d ps m) c 0 ≡ d + k
+  unfolding toldOf
+  told-in d {k} (p ∷ ps) m here h l =
+      let t = times-here (part c k) ps refl in told-out d ps (set m c (d + k)) (omega arith) ∙ set-same m c (d + k) l
+  told-in d (p ∷ ps) m (there i) h l =
+      let t = times-there p ps in let z = length-set m (p .child) (d + p .more) in
+      told-in d ps (set m (p .child) (d + p .more)) i (omega arith) (omega arith)
+
+told-length : (d : ℕ) (ps : List Part) (m : List ℕ) → length (toldOf d ps m) ≡ length m
+unfolding toldOf
+told-length d [] m = refl
+told-length d (p ∷ ps) m = told-length d ps (set m (p .child) (d + p .more)) ∙ length-set m (p .child) (d + p .more)
+
+module _ (s : List ℕ) where
+  -- the bindings over a record
+  abbrev pub needOf : ℕ → ℕ
+  needOf i = getD (bindingsBelow s i) i 0
+
+  bindings-length : (n : ℕ) → length (bindingsBelow s n) ≡ recordLimit
+  unfolding bindingsBelow with
+  bindings-length zero = length-replicate {A = ℕ} recordLimit 0
+  bindings-length (suc n) = told-length _ (partsOf (recordAt s n)) (bindingsBelow s n) ∙ bindings-length n
+
+  module _ (c : ℕ) where
+    times-in : (n p : ℕ) {m : ℕ} → p < n → In (part c m) (partsOf (recordAt s p)) → 1 ≤ timesBelow s n c
+    unfolding timesBelow
+    times-in zero p l i = absurd (omega arith)
+    times-in (suc n) p l i = go (eqb p n) refl (λ k. times-in n p k i)
+      where
+        go : (b : Bool) → eqb p n ≡ b → (p < n → 1 ≤ timesBelow s n c) → 1 ≤ timesBelow s n c + timesIn c (partsOf (recordAt s n))
+        go true e r = let t = in-times c (partsOf (recordAt s n)) (rw (eqb-true p n e) at i) in omega arith
+        go false e r = let k = r (omega (arith, eqb-false p n e)) in omega arith
+
+    times-mono : (k n : ℕ) → k ≤ n → timesBelow s k c ≤ timesBelow s n c
+    unfolding timesBelow
+    times-mono k zero l = let z : k ≡ 0 = omega arith in rw z (omega arith)
+    times-mono k (suc n) l = go (eqb k (suc n)) refl (λ j. times-mono k n j)
+      where
+        go : (b : Bool) → eqb k (suc n) ≡ b → (k ≤ n → timesBelow s k c ≤ timesBelow s n c) → timesBelow s k c ≤ timesBelow s (suc n) c
+        go true e r = rw (eqb-true k (suc n) e) (omega arith)
+        go false e r = let j = r (omega (arith, eqb-false k (suc n) e)) in omega arith
+
+    told-by : (n p : ℕ) {m : ℕ} → p < n → In (part c m) (partsOf (recordAt s p)) → timesBelow s n c ≤ 1 → c < recordLimit → getD (bindingsBelow s n) c 0 ≡ needOf p + m
+    unfolding timesBelow bindingsBelow with
+    told-by zero p l i t h = absurd (omega arith)
+    told-by (suc n) p {m} l i t h = go (eqb p n) refl (λ k j. told-by n p k i j h)
+      where
+        go : (b : Bool) → eqb p n ≡ b → (p < n → timesBelow s n c ≤ 1 → getD (bindingsBelow s n) c 0 ≡ needOf p + m)
+            → getD (toldOf (needOf n) (partsOf (recordAt s n)) (bindingsBelow s n)) c 0 ≡ needOf p + m
+        go true e r =
+            let z = bindings-length n in
+            told-in c (needOf n) (partsOf (recordAt s n)) (bindingsBelow s n) (rw (eqb-true p n e) at i) (omega arith) (omega arith) ∙ ap (λ a. needOf a + m) (sym (eqb-true p n e))
+        go false e r =
+            let k : p < n = omega (arith, eqb-false p n e) in
+            let j = times-in n p k i in
+            told-out c (needOf n) (partsOf (recordAt s n)) (bindingsBelow s n) (omega arith) ∙ r k (omega arith)
+
+-- ---- parts and places by a record's kind
+module _ (x : Record) where
+  body-in : x .kind ≡ procedureRecord → In (part (x .p) 1) (partsOf x)
+  unfolding partsOf if_equals_then_else_
+  body-in k = rw k here
+
+  given-in : x .kind ≡ letRecord → In (part (x .p) 0) (partsOf x)
+  unfolding partsOf if_equals_then_else_
+  given-in k = rw k here
+
+  inner-in : x .kind ≡ letRecord → In (part (x .q) 1) (partsOf x)
+  unfolding partsOf if_equals_then_else_
+  inner-in k = rw k (there here)
+
+  yes-in : x .kind ≡ ifRecord → In (part (x .q) 0) (partsOf x)
+  unfolding partsOf if_equals_then_else_
+  yes-in k = rw k here
+
+  no-in : x .kind ≡ ifRecord → In (part (x .r) 0) (partsOf x)
+  unfolding partsOf if_equals_then_else_
+  no-in k = rw k (there here)
+
+  variable-in : x .kind ≡ variableRecord → In (x .p) (placesOf x)
+  unfolding placesOf if_equals_then_else_
+  variable-in k = rw k here
+
+  called-in : x .kind ≡ callRecord → In (x .p) (placesOf x)
+  unfolding placesOf if_equals_then_else_
+  called-in k = rw k here
+
+  argument-in : x .kind ≡ callRecord → In (x .q) (placesOf x)
+  unfolding placesOf if_equals_then_else_
+  argument-in k = rw k (there here)
+
+  first-in : x .kind ≡ operatorRecord → In (x .p) (placesOf x)
+  unfolding placesOf if_equals_then_else_ with
+  first-in k = rw k (go (eqb (operandsOf (x .op)) 1))
+    where
+      go : (b : Bool) → In (x .p) (pick b (x .p ∷ []) (x .p ∷ x .q ∷ []))
+      go true = here
+      go false = here
+
+  second-in : x .kind ≡ operatorRecord → (operandsOf (x .op) ≡ 1 → ⊥) → In (x .q) (placesOf x)
+  unfolding placesOf if_equals_then_else_ with
+  second-in k d = rw (k, ne-eqb _ _ d) (there here)
+
+  tested-in : x .kind ≡ ifRecord → In (x .p) (placesOf x)
+  unfolding placesOf if_equals_then_else_
+  tested-in k = rw k here
+
+-- ---- a rule that passes the tests
+module _ (s : List ℕ) (h : ruleRefusalOf s ≡ 0) where
+  size : badRuleSize (length s) ≡ false
+  unfolding ruleRefusalOf if_then_else_
+  size = go (badRuleSize (length s)) refl h
+    where
+      go : (b : Bool) → badRuleSize (length s) ≡ b → pick b ruleSize (testsOf s (recordsIn s)) ≡ 0 → badRuleSize (length s) ≡ false
+      go true e r = absurd (omega arith)
+      go false e r = e
+
+  few : length s ≤ ruleBytes
+  unfolding badRuleSize
+  few = go (eqb (length s) 0) (ltb ruleBytes (length s)) refl size
+    where
+      go : (a b : Bool) → ltb ruleBytes (length s) ≡ b → (a || (b || not (eqb (length s % 8) 0))) ≡ false → length s ≤ ruleBytes
+      go true b p e = never (sym e)
+      go false true p e = never (sym e)
+      go false false p e = omega (arith, ltb-false ruleBytes (length s) p)
+
+  tests : (upTo (recordsIn s) (linkedOf s (recordsIn s)) ≡ true) × (upTo (recordsIn s) (scopedOf s) ≡ true)
+  unfolding ruleRefusalOf if_then_else_ testsOf unless_then_else_
+  tests = go (badRuleSize (length s)) (upTo (recordsIn s) (λ i. shapedOf (recordAt s i))) (upTo (recordsIn s) (linkedOf s (recordsIn s))) (upTo (recordsIn s) (scopedOf s)) refl refl h
+    where
+      go : (a b c d : Bool) → upTo (recordsIn s) (linkedOf s (recordsIn s)) ≡ c → upTo (recordsIn s) (scopedOf s) ≡ d
+          → pick a ruleSize (pick b (pick c (pick d 0 badPlace) badTree) badRecord) ≡ 0
+          → (upTo (recordsIn s) (linkedOf s (recordsIn s)) ≡ true) × (upTo (recordsIn s) (scopedOf s) ≡ true)
+      go true b c d p q e = absurd (omega arith)
+      go false false c d p q e = absurd (omega arith)
+      go false true false d p q e = absurd (omega arith)
+      go false true true false p q e = absurd (omega arith)
+      go false true true true p q e = (p, q)
+
+  -- "Each child's number is greater than its parent's"
+  inside : {c m : ℕ} (i : ℕ) → i < recordsIn s → In (part c m) (partsOf (recordAt s i)) → (i < c) × (c < recordsIn s)
+  unfolding linkedOf insideOf
+  inside {c} {m} i l p =
+      both (every (insideOf i (recordsIn s)) (partsOf (recordAt s i))) (onceOf i (timesBelow s (recordsIn s) i)) (up-at (recordsIn s) (linkedOf s (recordsIn s)) (tests .0) i l) λ a b.
+      both (ltb i c) (ltb c (recordsIn s)) (every-in (insideOf i (recordsIn s)) (partsOf (recordAt s i)) a p) λ u v.
+      (omega (arith, ltb-true i c u), omega (arith, ltb-true c (recordsIn s) v))
+
+  -- "each record but 0 is a child once"
+  once : (c : ℕ) → 0 < c → c < recordsIn s → timesBelow s (recordsIn s) c ≡ 1
+  unfolding linkedOf onceOf if_equals_then_else_
+  once c z l =
+      both (every (insideOf c (recordsIn s)) (partsOf (recordAt s c))) (pick (eqb c 0) true (eqb (timesBelow s (recordsIn s) c) 1)) (up-at (recordsIn s) (linkedOf s (recordsIn s)) (tests .0) c l) λ a b.
+      by-test (eqb c 0) true (eqb (timesBelow s (recordsIn s) c) 1) b (λ i e. absurd (omega (arith, eqb-true c 0 i))) (λ i e. eqb-true _ _ e)
+
+  under : {c m : ℕ} (i : ℕ) → i < recordsIn s → In (part c m) (partsOf (recordAt s i)) → Under (recordsIn s) (needOf s) c (needOf s i + m)
+  under {c} {m} i l p =
+      let j = inside i l p in let a = j .0 in let b = j .1 in let f = few in
+      let o = once c (omega arith) b in
+      let t = times-mono s c c (recordsIn s) (omega arith) in
+      record { low = b; is = told-by s c c i a p (omega arith) (omega arith) }
+
+  level : {c : ℕ} (i : ℕ) → i < recordsIn s → In (part c 0) (partsOf (recordAt s i)) → Under (recordsIn s) (needOf s) c (needOf s i)
+  level {c} i l p = let u = under i l p in let e = u .is in record { low = u .low; is = omega arith }
+
+  place : {p : ℕ} (i : ℕ) → i < recordsIn s → In p (placesOf (recordAt s i)) → p < needOf s i + inputCount
+  unfolding scopedOf with
+  place {p} i l q =
+      let e = every-in (λ p. ltb p (needOf s i + inputCount)) (placesOf (recordAt s i)) (up-at (recordsIn s) (scopedOf s) (tests .1) i l) q in
+      omega (arith, ltb-true p (needOf s i + inputCount) e)
+
+  pub scoped : Scoped s (recordsIn s) (needOf s)
+  scoped = record {
+    variable = λ i l k. place i l (variable-in (recordAt s i) k);
+    called = λ i l k. place i l (called-in (recordAt s i) k);
+    argument = λ i l k. place i l (argument-in (recordAt s i) k);
+    first = λ i l k. place i l (first-in (recordAt s i) k);
+    second = λ i l k d. place i l (second-in (recordAt s i) k d);
+    tested = λ i l k. place i l (tested-in (recordAt s i) k);
+    body = λ i l k. under i l (body-in (recordAt s i) k);
+    given = λ i l k. level i l (given-in (recordAt s i) k);
+    inner = λ i l k. under i l (inner-in (recordAt s i) k);
+    yes = λ i l k. level i l (yes-in (recordAt s i) k);
+    no = λ i l k. level i l (no-in (recordAt s i) k);
+  }
+
+-- it has a record
+pub few-some : (s : List ℕ) → ruleRefusalOf s ≡ 0 → 0 < recordsIn s
+unfolding badRuleSize
+few-some s h = go (eqb (length s) 0) (ltb ruleBytes (length s)) (eqb (length s % 8) 0) refl refl (size s h)
+  where
+    go : (a b c : Bool) → eqb (length s) 0 ≡ a → eqb (length s % 8) 0 ≡ c → (a || (b || not c)) ≡ false → 0 < recordsIn s
+    go true b c p q e = never (sym e)
+    go false true c p q e = never (sym e)
+    go false false false p q e = never (sym e)
+    go false false true p q e = let i = eqb-true (length s % 8) 0 q in omega (arith, eqb-false (length s) 0 p)
