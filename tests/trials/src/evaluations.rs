@@ -68,6 +68,7 @@ pub fn all(tally: &mut Tally) {
     leaves(tally);
     damaged_bytes(tally);
     random_sessions(tally);
+    reads_as_runs(tally);
     guarded_updates(tally);
     thousand_rules(tally);
     forms(tally);
@@ -215,6 +216,53 @@ fn random_sessions(tally: &mut Tally) {
             }
         }
     }
+}
+
+/// The desk's reading of the last result is what its plain runs of the accepted rules in turn give.
+fn reads_as_runs(tally: &mut Tally) {
+    let mut dice = Dice(0x5a3e);
+    for _ in 0..4_000 {
+        let inputs = dice.inputs();
+        let mut pair = Pair::open(&inputs, 4_096).expect("a good opening");
+        let mut accepted = Vec::new();
+        for _ in 0..3 {
+            let size = dice.below(24) + 1;
+            let bytes = dice.rule(size);
+            let answer = pair.evaluate(tally, &bytes, 24);
+            let (Some(result), (_, form)) = (result_of(answer), answer_bytes(answer)) else {
+                continue;
+            };
+            accepted.push((bytes, u16::from_le_bytes([form[8], form[9]])));
+            for _ in 0..4 {
+                let numbers = desk::numbers_bytes(&dice.numbers(&inputs));
+                let (mut work, mut reading) = (vec![0; 512], desk::UNREAD);
+                let form = desk::result_bytes(&result);
+                desk::read(
+                    &pair.form,
+                    &pair.ours,
+                    &numbers,
+                    &form,
+                    &mut work,
+                    &mut reading,
+                );
+                let ran = ran_in_turn(&desk::inputs_bytes(&inputs), &numbers, &accepted);
+                tally.same("a reading and a run", reading, ran);
+            }
+        }
+    }
+}
+
+/// The last rule's reading, or the first abort or error.
+fn ran_in_turn(inputs: &[u8], numbers: &[u8], rules: &[(Vec<u8>, u16)]) -> [u8; 4] {
+    let mut reading = desk::UNREAD;
+    for (bytes, depth) in rules {
+        let mut store = vec![0; 65_536];
+        desk::run(inputs, numbers, bytes, *depth, &mut store, &mut reading);
+        if reading[0] > 2 {
+            break;
+        }
+    }
+    reading
 }
 
 /// Guarded updates, rule after rule, until the table of 8,192 terms is full.
