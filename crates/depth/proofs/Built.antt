@@ -22,10 +22,11 @@ use Rattle.semantics.specs.Walk.{leafOf, Walk, sideOf, leftSideOf, rightSideOf,
 use Rattle.semantics.specs.Merge.{assumedStep, assertedStep, mergeStatesOf, valueStepOf, mergeValuesOf, finishOf, mergeOf}
 use Rattle.semantics.specs.Evaluation.{Run, datumOf, procedureOf, abortOf, errorOf, wordsOf, operationOf, testOf, operatorOf, forkOf, underOf, letOf, branchesOf, bothOf, ifOf, applyOf, targetOf, targetsOf, callOf, expressionOf, liveOf}
 
--- A relation between steps that each form of a step keeps. The terms that evaluations make are no free inputs.
+-- A relation between steps that each form of a step keeps. The terms that evaluations make are no free inputs, and the one refusal of their own
+-- is 10.
 pub record Kept (R : (A : Type 0) → Make A → Make A → Type 0) : Type 1 where
   pub giving : {A : Type 0} (a : A) → R A (give a) (give a)
-  pub refusing : {A : Type 0} (k : ℕ) → R A (refuse k) (refuse k)
+  pub refusing : {A : Type 0} → R A (refuse callTooWide) (refuse callTooWide)
   pub going-on : {A B : Type 0} {m l : Make A} {f g : A → Make B} → R A m l → ((a : A) → R B (f a) (g a)) → R B (m >>= f) (l >>= g)
   pub reading : {A B : Type 0} (f : List Term → B) (m l : B → Make A) → ((b : B) → R A (m b) (l b)) → R A (reads f m) (reads f l)
   pub making : (t : Term) → noFree t ≡ true → R ℕ (makeOf t) (makeOf t)
@@ -131,7 +132,7 @@ module _ (R : (A : Type 0) → Make A → Make A → Type 0) (kept : Kept R) whe
   -- ---- a call's walk
   kept-leaf : (found : List Leaf) (g : ℕ) (t : Term) → Self (leafOf found g t)
   unfolding leafOf
-  kept-leaf found g t = kept-with _ _ _ (kept-below (kept .giving _) (kept .refusing callTooWide) _ _)
+  kept-leaf found g t = kept-with _ _ _ (kept-below (kept .giving _) (kept .refusing) _ _)
 
   abbrev Walks : Walk → Type 0
   Walks w = (g x : ℕ) (found : List Leaf) → Self (w g x found)

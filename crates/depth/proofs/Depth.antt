@@ -63,7 +63,7 @@ module _ (k : ℕ) where
   cuts-kept =
       record {
         giving = λ a. record { at = λ z ts. same {u = 0} (omega arith) };
-        refusing = λ i. record { at = λ z ts. stop };
+        refusing = record { at = λ z ts. stop };
         going-on = cuts-then;
         reading = λ f m l h. record { at = λ z ts. h (f ts) .at z ts };
         making = λ t n. record { at = λ z ts. cut-made ts (t ∷ ts) (z .search ts t .at) (length ts) (z .search ts t .is) (ltb (length ts) (z .room)) };

@@ -27,11 +27,11 @@ use Rattle.terms.specs.Gives.{shown, Gives, wiped}
 use Rattle.terms.proofs.Laws.{terms-length}
 use Rattle.terms.proofs.Wiped.{restored}
 use Rattle.terms.proofs.Image.{image-whole}
+use Rattle.typing.proofs.Ruled.{ruled}
 use Rattle.typing.proofs.Steps.{Post, did, not-did}
 use Rattle.typing.proofs.Evaluation.{eval-does}
 use Rattle.sessions.specs.Entered.{Enters}
 use Rattle.sessions.proofs.Facts.{Fitting, fitting}
-use Rattle.sessions.proofs.Ruled.{ruled}
 
 post-same : {A : Type 0} {n : ℕ} {ts : List Term} {Q : List Term → A → Type 0} (x y : Got A) → Post n ts Q x y → x ≡ y
 post-same x y (did g f q) = refl

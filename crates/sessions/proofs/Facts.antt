@@ -22,6 +22,7 @@ use Rattle.terms.proofs.Laws.{terms-length}
 use Rattle.typing.proofs.Grown.{Grown, still, more, grown-on, at-lower, at-newest, Sort, sort-grown, truth-at}
 use Rattle.typing.proofs.Formed.{never, both, by-test, There, same-true, formed-newest}
 use Rattle.typing.proofs.Steps.{Fit, there-grown}
+use Rattle.typing.proofs.Later.{formed-later}
 use Rattle.typing.proofs.States.{Stated}
 use Rattle.opening.proofs.Opened.{Sized, sized}
 use Rattle.opening.proofs.Begins.{constants, Begins, begins}
@@ -66,25 +67,6 @@ terms-grown : (s : List ℕ) (n d m : ℕ) → m ≡ d + n → Grown (termsIn s 
 unfolding termsIn
 terms-grown s n zero m e = let f : m ≡ n = omega arith in rw f still
 terms-grown s n (suc d) m e = let f : m ≡ suc (d + n) = omega arith in rw f (more (terms-grown s n d (d + n) refl))
-
--- one rule more was accepted
-laid-later : (n : ℕ) (ts : List Term) (t : Term) → laidOut n ts t ≡ true → laidOut (n + 1) ts t ≡ true
-unfolding laidOut if_equals_then_else_
-laid-later n ts t h = go (eqb (t .kind) procedureTerm) refl
-  where
-    go : (b : Bool) → eqb (t .kind) procedureTerm ≡ b → laidOut (n + 1) ts t ≡ true
-    go true e =
-        let k : t .kind ≡ procedureTerm = eqb-true _ _ e in
-        by-test (eqb (t .op) 0) (ltb (t .a) recordLimit && (namesBinding ts (t .b) && ltb (t .c) n)) false (rw k at h)
-        (λ i j. both (ltb (t .a) recordLimit) (namesBinding ts (t .b) && ltb (t .c) n) j λ p q. both (namesBinding ts (t .b)) (ltb (t .c) n) q λ u v.
-        let w : t .c < n + 1 = omega (arith, ltb-true (t .c) n v) in rw (k, i, p, u, lt-ltb _ _ w))
-        (λ i j. never j)
-    go false e = rw e (rw e at h)
-
-formed-later : (n : ℕ) (ts : List Term) → wellFormed n ts ≡ true → wellFormed (n + 1) ts ≡ true
-unfolding wellFormed
-formed-later n [] h = refl
-formed-later n (t ∷ ts) h = formed-newest n t ts h λ p q r. rw (laid-later n ts t p, q, formed-later n ts r)
 
 pub record Fitting (x : Session) (s : List ℕ) : Type 0 where
   pub size : Sized (length s)

@@ -1,4 +1,3 @@
 pub mod Facts
-pub mod Ruled
 pub mod ByRules
 pub mod Order

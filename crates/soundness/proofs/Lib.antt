@@ -15,7 +15,6 @@ pub mod Readout
 pub mod Scope
 pub mod Scoping
 pub mod Onward
-pub mod Histories
+pub mod Outcomes
 pub mod Begun
 pub mod Inputs
-pub mod Demand

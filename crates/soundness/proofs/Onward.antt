@@ -22,10 +22,11 @@ use Rattle.semantics.specs.History.{ranOn}
 use Rattle.typing.proofs.Formed.{never}
 use Rattle.typing.proofs.Steps.{Fit}
 use Rattle.typing.proofs.Evaluation.{Ruled}
+use Rattle.depth.proofs.Depth.{depth-enough}
 use Rattle.soundness.proofs.Steps.{Const}
 use Rattle.soundness.proofs.Held.{En}
 use Rattle.soundness.proofs.Sim.{ends, on, afterSeen, on-after, on-off, on-live, ends-same, totalOf, Sim, sim-halt, sim-as}
-use Rattle.soundness.proofs.Readout.{Done, evaluation-done, evaluation-spent}
+use Rattle.soundness.proofs.Readout.{Done, evaluation-at, evaluation-spent}
 use Rattle.soundness.proofs.Scope.{bound, Good, run-agrees}
 use Rattle.soundness.proofs.Scoping.{needOf, few-some, scoped}
 
@@ -88,16 +89,21 @@ module _ {ns : List ℕ} (xs : List Input) (l : length xs ≡ inputCount) (m : i
       (sim .sees ∙ ap ends (sym (stopped (sim .s) (sim .t) (sim .v) o k (sim .sees) (λ _. runOf rule d 0 (inputsBound xs ns))))))
 
   module _ (b e : ℕ) (f : Fit (b + 1) ts) (env : En ns (inputsBound xs ns) ts e) (size : ℕ) where
-    -- a rule that is evaluated: its result reads as the run goes on at the reported depth
-    pub ran-on : (d : ℕ) {us : List Term} {w : Result} {u : ℕ} → evalOf rule b d 0 e (r .state) (settingOf size) ts ≡ gave us w u
-        → Done (b + 1) ts (Sim ns (ends (ranOn (inputsBound xs ns) o rule u))) us w
+    -- a rule that is evaluated: its result reads as the run goes on at the allowance,
+    pub ran-at : (d : ℕ) {us : List Term} {w : Result} {u : ℕ} → evalOf rule b d 0 e (r .state) (settingOf size) ts ≡ gave us w u
+        → Done (b + 1) ts (Sim ns (ends (ranOn (inputsBound xs ns) o rule d))) us w
     unfolding ranOn
-    ran-on d {us} {w} {u} q =
-        let x = evaluation-done ruled b size 0 e f env (sim .st) d q in
+    ran-at d q =
+        let x = evaluation-at ruled b size 0 e f env (sim .st) d q in
         record {
           step = x .step;
-          holds = sim-as (ap (on (sim .s) (sim .t)) (rule-runs rule h xs ns l m u) ∙ goes-on (sim .s) (sim .t) (sim .v) o (runOf rule u 0 (inputsBound xs ns)) (sim .sees)) (x .holds);
+          holds = sim-as (ap (on (sim .s) (sim .t)) (rule-runs rule h xs ns l m d) ∙ goes-on (sim .s) (sim .t) (sim .v) o (runOf rule d 0 (inputsBound xs ns)) (sim .sees)) (x .holds);
         }
+
+    -- and at the reported depth
+    pub ran-on : (d : ℕ) {us : List Term} {w : Result} {u : ℕ} → evalOf rule b d 0 e (r .state) (settingOf size) ts ≡ gave us w u
+        → Done (b + 1) ts (Sim ns (ends (ranOn (inputsBound xs ns) o rule u))) us w
+    ran-on d {u = u} q = ran-at u (depth-enough rule b 0 e (r .state) (settingOf size) ts d q)
 
     -- With constants alone, a refusal for depth is exact: the run with that depth spends it.
     pub ran-out : (d : ℕ) → r .halted ≡ false → Const ts → evalOf rule b d 0 e (r .state) (settingOf size) ts ≡ refused depthSpent → ranOn (inputsBound xs ns) o rule d ≡ spends

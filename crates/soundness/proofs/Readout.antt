@@ -1,6 +1,5 @@
--- One evaluation: under numbers that give each free truth 0 or 1, what is read of its result is what comes of the run at the reported depth in the
--- state before; no such run spends its depth, and both formulas are false only if they were. With constants alone, a refusal for depth is a run
--- that spends the allowance. Assumes nothing.
+-- One evaluation: what is read of its result, under numbers that give each free truth 0 or 1, is what comes of the run at the allowance in the state
+-- before. With constants alone, a refusal for depth is a run that spends the allowance. Assumes nothing.
 use mathlib.Core.Path.{_≡_, refl, sym, ap, subst, _∙_}
 use mathlib.Core.Bool.{Bool, true, false, _&&_, _||_}
 use mathlib.Core.List.{List}
@@ -21,12 +20,10 @@ use Rattle.semantics.specs.Reading.{isTrue, readings, valueOutcome, resultOutco
 use Rattle.typing.proofs.Formed.{never}
 use Rattle.typing.proofs.Steps.{Fit}
 use Rattle.typing.proofs.Evaluation.{Ruled}
-use Rattle.depth.proofs.Depth.{depth-enough}
 use Rattle.soundness.proofs.Means.{isProper}
 use Rattle.soundness.proofs.Steps.{Const, Step, Post, did, not-did, Does}
 use Rattle.soundness.proofs.Held.{En, is-proper}
 use Rattle.soundness.proofs.Sim.{Seen, ends, broken, on, totalOf, StIs, Sim}
-use Rattle.soundness.proofs.Merging.{on-unspent}
 use Rattle.soundness.proofs.Simulation.{simulation}
 use Rattle.soundness.proofs.Link.{readingIn, Small, true-same, reading-link}
 
@@ -88,45 +85,11 @@ sim-read {n} {ns} {us} {r} f m h =
     rw (rs, rt, rv, reads-truth (h .s), reads-truth (h .t)) (result-outcome (h .s) (h .t) (r .halted) (h .v) (is-proper f (h .value)) (h .dead)) ∙ ap seenOutcome (h .sees)
 
 -- ---- one evaluation of record i in the bindings e, from the state y
-on-broken : (s t : Bool) (o : Ended) → on s t o ≡ broken → (s || t) ≡ false
-on-broken true true o e = let z : _≡_ {A = ℕ} 0 1 = cc in absurd (omega arith)
-on-broken true false o e = let z : _≡_ {A = ℕ} 0 1 = cc in absurd (omega arith)
-on-broken false true o e = let z : _≡_ {A = ℕ} 0 1 = cc in absurd (omega arith)
-on-broken false false o e = refl
-
-both-false : (s t : Bool) (o : Ended) → (s || t) ≡ false → on s t o ≡ broken
-both-false true t o e = never (sym e)
-both-false false true o e = never (sym e)
-both-false false false o e = refl
-
 module _ {ns : List ℕ} {rule : List ℕ} (ruled : Ruled rule) (b l i e : ℕ) {y : State} {ts : List Term} {s t : Bool} {E : Value}
     (f : Fit (b + 1) ts) (h : En ns E ts e) (st : StIs ns s t ts y) where
-  module _ (d : ℕ) {us : List Term} {r : Result} {u : ℕ} (q : evalOf rule b d i e y (settingOf l) ts ≡ gave us r u) where
-    pub evaluation-done : Done (b + 1) ts (Sim ns (on s t (totalOf rule u i E))) us r
-    evaluation-done = done (simulation l b ns rule ruled u i e y ts s t E f h st) (depth-enough rule b i e y (settingOf l) ts d q)
-
-    -- Reading gives what the run at the reported depth gives.
-    pub evaluation-reads : Small ns us → readIn (readings ns us) r ≡ seenOutcome (on s t (totalOf rule u i E))
-    evaluation-reads m = sim-read (evaluation-done .step .fit) m (evaluation-done .holds)
-
-    -- From a normal state, the run does not spend its depth.
-    pub evaluation-unspent : (s && t) ≡ true → totalOf rule u i E ≡ spends → ⊥
-    evaluation-unspent n z = let x = evaluation-done .holds in on-unspent (x .s) (x .t) (x .v) (x .sees ∙ (ap (on s t) z ∙ live s t n))
-      where
-        live : (s t : Bool) → (s && t) ≡ true → on s t spends ≡ ends spends
-        live true true n = refl
-        live true false n = never n
-        live false t n = never n
-
-    -- The formulas are never both false, if they were not.
-    pub evaluation-legal : (s || t) ≡ true → (evaluation-done .holds .s || evaluation-done .holds .t) ≡ true
-    evaluation-legal n = go (evaluation-done .holds .s || evaluation-done .holds .t) refl
-      where
-        go : (c : Bool) → (evaluation-done .holds .s || evaluation-done .holds .t) ≡ c → (evaluation-done .holds .s || evaluation-done .holds .t) ≡ true
-        go true e = e
-        go false e =
-            let x = evaluation-done .holds in
-            never (sym (on-broken s t (totalOf rule u i E) (sym (x .sees) ∙ both-false (x .s) (x .t) (gives (x .v)) e)) ∙ n)
+  -- The result reads as what comes of the run at the allowance in the state before.
+  pub evaluation-at : (d : ℕ) {us : List Term} {r : Result} {u : ℕ} → evalOf rule b d i e y (settingOf l) ts ≡ gave us r u → Done (b + 1) ts (Sim ns (on s t (totalOf rule d i E))) us r
+  evaluation-at d q = done (simulation l b ns rule ruled d i e y ts s t E f h st) q
 
   -- With constants alone and from a normal state, a refusal for depth is exact.
   pub evaluation-spent : (d : ℕ) → evalOf rule b d i e y (settingOf l) ts ≡ refused depthSpent → Const ts → (s && t) ≡ true → totalOf rule d i E ≡ spends

@@ -1,8 +1,10 @@
 pub mod Grown
 pub mod Formed
 pub mod Steps
+pub mod Later
 pub mod Factory
 pub mod States
 pub mod Walk
 pub mod Merge
 pub mod Evaluation
+pub mod Ruled

@@ -1,0 +1,1 @@
+// The demands as theorems about the operations' own definitions. Proofs only, no code.
