@@ -1,31 +1,28 @@
 -- What holds of a session and a table from an accepted opening on, and that test 3 takes them then. Assumes nothing.
-use mathlib.Core.Path.{_≡_, refl, sym, ap, _∙_}
-use mathlib.Core.Bool.{Bool, true, false, not, _&&_}
+use mathlib.Core.Path.{_≡_, refl, ap, _∙_}
+use mathlib.Core.Bool.{true, false}
 use mathlib.Core.List.{List, [], _∷_}
-use Prim.Native.Nat.{ℕ, zero, suc, _+_, _-_, _*_, _/_, _<_, _≤_}
+use Prim.Native.Nat.{ℕ, suc, _-_, _*_, _/_, _≤_}
 use native.Mathlib.Omega.{arith}
 use lib.ListN.{length, take, drop}
-use lib.Dec.{eqb, leb}
 use borrow.Author.Tests.{eq-eqb, le-leb}
-use Rattle.notation.specs.Notation.{pick, if_then_else_}
+use Rattle.notation.specs.Notation.{if_then_else_}
 use Rattle.semantics.specs.declared.Term.{Term}
 use Rattle.semantics.specs.declared.Input.{Input}
 use Rattle.semantics.specs.declared.Session.{Session}
 use Rattle.semantics.specs.Numbers.{inputCount, mostTable, ruleLimit}
-use Rattle.semantics.specs.Records.{recordsIn}
 use Rattle.semantics.specs.Rules.{every}
 use Rattle.semantics.specs.Terms.{termsIn, imageOf, sameOf}
 use Rattle.semantics.specs.Steps.{settingOf, roomOf, Got, gave}
-use Rattle.semantics.specs.Opening.{badTableSize, inputTaken, openingOf, opening, openingFrom}
+use Rattle.semantics.specs.Opening.{badTableSize, inputTaken, openingOf, opening}
 use Rattle.semantics.specs.Fits.{sameTerms, noFree, isZero, fitsOf}
-use Rattle.terms.specs.Search.{codeSetting}
-use Rattle.typing.proofs.Grown.{Grown, grown-length, truth-named}
+use Rattle.typing.proofs.Grown.{grown-length, truth-named}
 use Rattle.typing.proofs.Steps.{Fit}
 use Rattle.typing.proofs.States.{Stated}
 use Rattle.opening.specs.Openings.{openAll}
 use Rattle.opening.proofs.Order.{same-opening}
 use Rattle.opening.proofs.Room.{Roomy, roomy, Link, all-roomy}
-use Rattle.opening.proofs.Opened.{Sized, sized}
+use Rattle.opening.proofs.Opened.{sized}
 use Rattle.demands.proofs.Longer.{Adds, none, one, adds-grown, adds-within}
 use Rattle.demands.proofs.Stored.{stored-length, stored-terms, stored-older, stored-tail}
 

@@ -5,3 +5,5 @@ pub mod Answers
 pub mod Holds
 pub mod Live
 pub mod Theorems
+pub mod Further
+pub mod Printed

@@ -1,9 +1,9 @@
 -- The invariant of a list of calls under sixteen numbers: what is read of the last result is what the run of the accepted rules gives. A call keeps
 -- it, whatever it answers. Assumes nothing.
 use mathlib.Core.Path.{_≡_, refl, sym, ap, subst, _∙_}
-use mathlib.Core.Bool.{Bool, true, false, _&&_}
+use mathlib.Core.Bool.{Bool, true, false}
 use mathlib.Core.List.{List, [], _∷_, _++_}
-use Prim.Native.Nat.{ℕ, zero, suc, _+_, _<_, _≤_}
+use Prim.Native.Nat.{ℕ, suc, _<_, _≤_}
 use native.Mathlib.Omega.{arith}
 use lib.ListN.{length}
 use lib.Dec.{ltb}
@@ -11,14 +11,13 @@ use borrow.Author.Tests.{ltb-true}
 use Rattle.notation.specs.Notation.{pick, if_then_else_}
 use Rattle.semantics.specs.declared.Term.{Term}
 use Rattle.semantics.specs.declared.Input.{Input}
-use Rattle.semantics.specs.declared.State.{State}
 use Rattle.semantics.specs.declared.Result.{Result}
 use Rattle.semantics.specs.declared.Session.{Session}
 use Rattle.semantics.specs.declared.Answer.the-variants.{Out, Halt}
 use Rattle.semantics.specs.declared.Evaluated.{Evaluated}
-use Rattle.semantics.specs.Numbers.{inputCount, ruleLimit, trueNumber, freeTruth, mostTable}
-use Rattle.semantics.specs.Rules.{every, ruleRefusalOf}
-use Rattle.semantics.specs.Terms.{termsIn, imageOf}
+use Rattle.semantics.specs.Numbers.{inputCount, trueNumber, freeTruth, mostTable}
+use Rattle.semantics.specs.Rules.{every}
+use Rattle.semantics.specs.Terms.{imageOf}
 use Rattle.semantics.specs.Steps.{settingOf, Got, gave, refused}
 use Rattle.semantics.specs.States.{stateOf, outOf, haltOf}
 use Rattle.semantics.specs.Opening.{badTableSize, inputTaken, opening, sessionOf}
@@ -30,18 +29,16 @@ use Rattle.semantics.specs.History.{Call, Accepted, History, acceptedAfter, cal
 use Rattle.typing.proofs.Formed.{never, by-test}
 use Rattle.typing.proofs.Steps.{Fit}
 use Rattle.typing.proofs.Later.{fit-later}
-use Rattle.typing.proofs.States.{Stated}
 use Rattle.typing.proofs.Ruled.{ruled}
 use Rattle.soundness.proofs.Steps.{Const}
 use Rattle.soundness.proofs.Held.{En, en-step}
-use Rattle.soundness.proofs.Sim.{ends, on, on-off, Sim, StIs, sim-out, sim-halt, sim-as}
+use Rattle.soundness.proofs.Sim.{ends, on-off, Sim, sim-out, sim-halt, sim-as}
 use Rattle.soundness.proofs.Outcomes.{starts}
-use Rattle.soundness.proofs.Readout.{Done}
 use Rattle.soundness.proofs.Onward.{ran-on, halted-on}
 use Rattle.soundness.proofs.Begun.{opening-means}
 use Rattle.soundness.proofs.Inputs.{EachIn, opening-constant}
 use Rattle.demands.specs.Demands.{allConstants, firstFailed}
-use Rattle.demands.proofs.Longer.{Adds, none, adds-on, eval-adds}
+use Rattle.demands.proofs.Longer.{none, adds-on, eval-adds}
 use Rattle.demands.proofs.Answers.{Answered, failed, again, goes, answered, Passed, passed}
 use Rattle.demands.proofs.Holds.{begun, Holds, holds-length, holds-terms}
 

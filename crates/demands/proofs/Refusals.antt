@@ -1,7 +1,6 @@
 -- The symbolic rules reach no refusal but 10, 11 and 12. Assumes nothing.
-use mathlib.Core.Path.{_≡_, refl}
 use mathlib.Core.Bool.{Bool, true, false}
-use mathlib.Core.List.{List, [], _∷_}
+use mathlib.Core.List.{List, _∷_}
 use Prim.Native.Nat.{ℕ, zero, suc}
 use lib.Dec.{ltb}
 use lib.ListN.{length}
@@ -9,7 +8,6 @@ use Rattle.notation.specs.Notation.{pick}
 use Rattle.semantics.specs.declared.Term.{Term}
 use Rattle.semantics.specs.declared.State.{State}
 use Rattle.semantics.specs.Numbers.{callTooWide, tableFull, depthSpent}
-use Rattle.semantics.specs.Fits.{noFree}
 use Rattle.semantics.specs.Steps.{Setting, Got, gave, refused, Make, deeper, next, _>>=_, give, refuse, reads, up, upOf, makeOf}
 use Rattle.semantics.specs.Evaluation.{evalOf}
 use Rattle.depth.proofs.Built.{Kept, kept-live}

@@ -1,15 +1,14 @@
 -- The bytes of a table that holds some terms: as long as it is meant to be, those terms when they are cut from it again, and zero past them.
 -- Assumes nothing.
-use mathlib.Core.Path.{_≡_, refl, sym, ap, _∙_}
-use mathlib.Core.Bool.{Bool, true, false}
+use mathlib.Core.Path.{_≡_, refl, _∙_}
+use mathlib.Core.Bool.{true}
 use mathlib.Core.List.{List, [], _∷_}
-use Prim.Native.Nat.{ℕ, zero, suc, _+_, _-_, _*_, _<_, _≤_}
+use Prim.Native.Nat.{ℕ, suc, _+_, _-_, _*_, _<_, _≤_}
 use native.Mathlib.Omega.{arith}
 use lib.ListN.{length, getD, drop, length-drop, length-replicate, getD-replicate}
 use lib.Seq.{getD-drop}
-use lib.Dec.{eqb}
 use borrow.Author.Tests.{eq-eqb}
-use Rattle.notation.specs.Notation.{pick, if_then_else_}
+use Rattle.notation.specs.Notation.{if_then_else_}
 use Rattle.semantics.specs.declared.Term.{Term}
 use Rattle.semantics.specs.Rules.{every}
 use Rattle.semantics.specs.Terms.{termAt, termsIn, put, imageOf}

@@ -2,11 +2,10 @@
 use mathlib.Core.Path.{_≡_, refl, sym, ap, subst, _∙_}
 use mathlib.Core.Bool.{Bool, true, false, _||_}
 use mathlib.Core.List.{List, [], _∷_}
-use Prim.Native.Nat.{ℕ, zero, suc, _+_, _<_, _≤_}
+use Prim.Native.Nat.{ℕ, _<_, _≤_}
 use native.Mathlib.Omega.{arith}
-use lib.ListN.{length, replicate, length-replicate, getD}
-use lib.Dec.{eqb, ltb}
-use borrow.Author.Tests.{eqb-true, le-ltb}
+use lib.ListN.{length, replicate, length-replicate}
+use borrow.Author.Tests.{le-ltb}
 use Rattle.notation.specs.Notation.{pick, with, if_then_else_, if_below_then_else_, unless_then_else_}
 use Rattle.semantics.specs.declared.Term.{Term}
 use Rattle.semantics.specs.declared.Input.{Input}
@@ -17,11 +16,10 @@ use Rattle.semantics.specs.declared.Answer.{Answer}
 use Rattle.semantics.specs.declared.Answer.the-variants.{Out, Halt, Refused}
 use Rattle.semantics.specs.declared.Outcome.{Outcome}
 use Rattle.semantics.specs.declared.Outcome.the-variants.{Refused as NoOutcome}
-use Rattle.semantics.specs.declared.Opened.{Opened}
 use Rattle.semantics.specs.declared.Evaluated.{Evaluated}
-use Rattle.semantics.specs.Numbers.{inputCount, mostTable, freeTruthTerm, tableSize, badInput, misfit, callTooWide, tableFull, depthSpent}
+use Rattle.semantics.specs.Numbers.{inputCount, mostTable, tableSize, badInput, misfit, callTooWide, tableFull, depthSpent}
 use Rattle.semantics.specs.Rules.{every}
-use Rattle.semantics.specs.Terms.{termsIn, imageOf, namesTruth, namesValue}
+use Rattle.semantics.specs.Terms.{termsIn, imageOf}
 use Rattle.semantics.specs.Steps.{settingOf, Got, gave, refused}
 use Rattle.semantics.specs.Opening.{badTableSize, inputTaken, opening, sessionOf, openRefused, openOf}
 use Rattle.semantics.specs.Evaluation.{evalOf}
@@ -29,24 +27,22 @@ use Rattle.semantics.specs.Answers.{answerOf}
 use Rattle.semantics.specs.Fits.{noFree, fitsOf}
 use Rattle.semantics.specs.Evaluate.{refusedBy, haltedAgain, left, evaluated, evaluateOf}
 use Rattle.semantics.specs.Reading.{isTrue, nth, readings, numbersTaken, resultTaken, readIn, readOutcome, readOf}
-use Rattle.semantics.specs.Run.{Value, truth, word, procedure, binding, none, Ended, gives, aborts, errs, spends, inputsBound}
+use Rattle.semantics.specs.Run.{truth, word, procedure, binding, none, Ended, gives, aborts, errs, spends, inputsBound}
 use Rattle.semantics.specs.PlainRun.{valueGiven, endedOutcome}
-use Rattle.semantics.specs.History.{Call, History, begun, called, calledAll, ranOn, runOfRules}
+use Rattle.semantics.specs.History.{Call, History, called, calledAll, ranOn, runOfRules}
 use Rattle.typing.proofs.Grown.{truth-named}
 use Rattle.typing.proofs.Formed.{never}
-use Rattle.typing.proofs.Steps.{Fit}
 use Rattle.typing.proofs.Later.{fit-later}
 use Rattle.typing.proofs.Ruled.{ruled}
-use Rattle.soundness.proofs.Sim.{ends, Sim}
 use Rattle.soundness.proofs.Link.{readingIn, Small, true-same, reading-link}
 use Rattle.soundness.proofs.Outcomes.{reads-as, never-both, not-spent}
 use Rattle.soundness.proofs.Onward.{ran-at, halted-on, ran-out}
 use Rattle.soundness.proofs.Inputs.{opening-small}
-use Rattle.demands.specs.Demands.{answerTo, oneTrue, allConstants, Stands, Demand3, firstFailed, Reaches, Ends, value, halt, too-wide, full, spent, Demand1}
+use Rattle.demands.specs.Demands.{answerTo, oneTrue, allConstants, Stands, Demand3, firstFailed, Ends, value, halt, too-wide, full, spent, Demand1}
 use Rattle.demands.proofs.Longer.{Adds, none as no-more, one}
 use Rattle.demands.proofs.Refusals.{Known, result, eval-known, too-wide as known-wide, full as known-full, spent as known-spent}
-use Rattle.demands.proofs.Answers.{Answered, failed, again, goes, answered, Passed, passed, failed-number}
-use Rattle.demands.proofs.Holds.{begun as opening-begun, Holds, holds-fits, holds-terms}
+use Rattle.demands.proofs.Answers.{Answered, failed, again, goes, answered, failed-number}
+use Rattle.demands.proofs.Holds.{begun as opening-begun, holds-fits, holds-terms}
 use Rattle.demands.proofs.Live.{answer, called-refused, Live, live-begun, Said, test, still, out, stop, said, live-called}
 
 -- ---- answers that differ
@@ -280,17 +276,17 @@ module _ (xs : List Input) (sixteen : length xs ≡ inputCount) (good : every in
       }
 
 -- ---- from the opening on
-record Accepts (xs : List Input) (s : List ℕ) : Type 0 where
+record Taken (xs : List Input) (s : List ℕ) : Type 0 where
   size : badTableSize (length s) ≡ false
   good : every inputTaken xs ≡ true
   is : openOf xs s ≡ (record { refusal = 0; session = sessionOf xs (length (opening xs .terms)) }, imageOf (length s) (opening xs .terms))
 
-accepts : (xs : List Input) (s : List ℕ) → openOf xs s .0 .refusal ≡ 0 → Accepts xs s
+accepts : (xs : List Input) (s : List ℕ) → openOf xs s .0 .refusal ≡ 0 → Taken xs s
 unfolding openOf if_then_else_ unless_then_else_ with
 accepts xs s = go (badTableSize (length s)) (every inputTaken xs) refl refl
   where
     go : (b t : Bool) → badTableSize (length s) ≡ b → every inputTaken xs ≡ t
-        → pick b (openRefused xs s tableSize) (pick t (record { refusal = 0; session = sessionOf xs (length (opening xs .terms)) }, imageOf (length s) (opening xs .terms)) (openRefused xs s badInput)) .0 .refusal ≡ 0 → Accepts xs s
+        → pick b (openRefused xs s tableSize) (pick t (record { refusal = 0; session = sessionOf xs (length (opening xs .terms)) }, imageOf (length s) (opening xs .terms)) (openRefused xs s badInput)) .0 .refusal ≡ 0 → Taken xs s
     go true t p q e = absurd (omega arith)
     go false true p q e = record { size = p; good = q; is = rw (p, q) }
     go false false p q e = absurd (omega arith)

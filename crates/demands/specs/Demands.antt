@@ -1,7 +1,7 @@
 -- The demands 1 and 3, as statements about the definitions that the operations are proved equal to: `openOf`, `evaluateOf` and `readOf`, on bytes.
 -- Assumes nothing.
 use mathlib.Core.Path.{_≡_}
-use mathlib.Core.Bool.{Bool, true, false, _||_}
+use mathlib.Core.Bool.{Bool, true, _||_}
 use mathlib.Core.List.{List}
 use Prim.Native.Nat.{ℕ, _<_, _≤_}
 use lib.Dec.{ltb, leb}
@@ -10,11 +10,9 @@ use Rattle.notation.specs.Notation.{if_then_else_, if_below_then_else_, unless_
 use Rattle.semantics.specs.declared.Input.{Input}
 use Rattle.semantics.specs.declared.State.{State}
 use Rattle.semantics.specs.declared.Session.{Session}
-use Rattle.semantics.specs.declared.Outcome.{Outcome}
 use Rattle.semantics.specs.declared.Outcome.the-variants.{Refused as NoOutcome}
 use Rattle.semantics.specs.declared.Answer.{Answer}
 use Rattle.semantics.specs.declared.Answer.the-variants.{Out, Halt, Refused}
-use Rattle.semantics.specs.declared.Evaluated.{Evaluated}
 use Rattle.semantics.specs.Numbers.{freeTruth, inputCount, misfit, badAllowance, rulesSpent, callTooWide, tableFull, depthSpent, ruleLimit}
 use Rattle.semantics.specs.Rules.{every, ruleRefusalOf}
 use Rattle.semantics.specs.Terms.{termsIn}

@@ -1,13 +1,11 @@
 -- An evaluation by the code, from a session and a table that fit, is document 01's: the answer, the session then and every byte of the table.
 -- Assumes nothing.
-use mathlib.Core.Path.{_≡_, refl, sym, ap, _∙_}
-use mathlib.Core.Bool.{Bool, true, false}
-use mathlib.Core.List.{List, [], _∷_}
-use Prim.Native.Nat.{ℕ, zero, _+_, _*_, _<_, _≤_}
-use native.Mathlib.Omega.{arith}
+use mathlib.Core.Path.{_≡_, refl, ap, _∙_}
+use mathlib.Core.Bool.{true}
+use mathlib.Core.List.{List}
+use Prim.Native.Nat.{ℕ, _*_, _<_}
 use lib.ListN.{length, getD}
 use borrow.Author.Tests.{eq-eqb, ne-eqb}
-use Rattle.notation.specs.Notation.{pick}
 use Rattle.semantics.specs.declared.Term.{Term}
 use Rattle.semantics.specs.declared.Result.{Result}
 use Rattle.semantics.specs.declared.Session.{Session}
@@ -16,12 +14,12 @@ use Rattle.semantics.specs.declared.Answer.the-variants.{Refused}
 use Rattle.semantics.specs.declared.Evaluated.{Evaluated}
 use Rattle.semantics.specs.Rules.{ruleRefusalOf}
 use Rattle.semantics.specs.Terms.{termsIn, imageOf}
-use Rattle.semantics.specs.Steps.{Got, gave, refused, settingOf}
+use Rattle.semantics.specs.Steps.{Got, settingOf}
 use Rattle.semantics.specs.Opening.{opening}
 use Rattle.semantics.specs.Evaluation.{evalOf}
 use Rattle.semantics.specs.Fits.{fitsOf}
 use Rattle.semantics.specs.Answers.{answerOf}
-use Rattle.semantics.specs.Evaluate.{refusedBy, advanced, left, evaluated}
+use Rattle.semantics.specs.Evaluate.{refusedBy, advanced, evaluated}
 use Rattle.terms.specs.Search.{codeSetting}
 use Rattle.terms.specs.Gives.{shown, Gives, wiped}
 use Rattle.terms.proofs.Laws.{terms-length}

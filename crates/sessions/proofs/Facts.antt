@@ -1,26 +1,26 @@
 -- What test 3 says of a session and a table: the table is one that steps are taken on, and the session names what it should. Assumes nothing.
 use mathlib.Core.Path.{_≡_, refl, sym, ap, _∙_}
-use mathlib.Core.Bool.{Bool, true, false, not, _&&_}
+use mathlib.Core.Bool.{Bool, true, false, not}
 use mathlib.Core.List.{List, [], _∷_}
-use Prim.Native.Nat.{ℕ, zero, suc, _+_, _-_, _*_, _/_, _%_, _<_, _≤_}
+use Prim.Native.Nat.{ℕ, zero, suc, _+_, _-_, _*_, _<_, _≤_}
 use native.Mathlib.Omega.{arith}
 use lib.ListN.{length, getD, take, drop, length-drop, List·getD-eq-default}
 use lib.Seq.{getD-drop}
-use lib.Dec.{eqb, ltb, leb}
-use borrow.Author.Tests.{eqb-true, leb-true, ltb-true, ltb-false, lt-ltb}
-use Rattle.notation.specs.Notation.{pick, if_then_else_, if_equals_then_else_}
+use lib.Dec.{ltb}
+use borrow.Author.Tests.{eqb-true, leb-true, ltb-true, ltb-false}
+use Rattle.notation.specs.Notation.{pick, if_then_else_}
 use Rattle.semantics.specs.declared.Term.{Term}
 use Rattle.semantics.specs.declared.Input.{Input}
 use Rattle.semantics.specs.declared.Session.{Session}
-use Rattle.semantics.specs.Numbers.{truthTerm, procedureTerm, bindingTerm, recordLimit, mostTable, inputCount, ruleLimit, termLimit}
+use Rattle.semantics.specs.Numbers.{bindingTerm, inputCount, ruleLimit}
 use Rattle.semantics.specs.Records.{recordsIn}
 use Rattle.semantics.specs.Rules.{every}
-use Rattle.semantics.specs.Terms.{term, termsIn, sameOf, findOf, namesTruth, namesBinding, laidOut, wellFormed}
-use Rattle.semantics.specs.Opening.{badTableSize, inputTaken, opening}
+use Rattle.semantics.specs.Terms.{termsIn, sameOf, wellFormed}
+use Rattle.semantics.specs.Opening.{inputTaken, opening}
 use Rattle.semantics.specs.Fits.{sameTerms, noFree, isZero, fitsOf}
 use Rattle.terms.proofs.Laws.{terms-length}
 use Rattle.typing.proofs.Grown.{Grown, still, more, grown-on, at-lower, at-newest, Sort, sort-grown, truth-at}
-use Rattle.typing.proofs.Formed.{never, both, by-test, There, same-true, formed-newest}
+use Rattle.typing.proofs.Formed.{never, both, same-true}
 use Rattle.typing.proofs.Steps.{Fit, there-grown}
 use Rattle.typing.proofs.Later.{formed-later}
 use Rattle.typing.proofs.States.{Stated}

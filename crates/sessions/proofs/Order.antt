@@ -1,10 +1,9 @@
 -- The refusals of an evaluation in their order, and what comes after them. Assumes nothing.
-use mathlib.Core.Path.{_≡_, refl, sym, ap, _∙_}
+use mathlib.Core.Path.{_≡_, sym}
 use mathlib.Core.Bool.{Bool, true, false}
 use mathlib.Core.List.{List}
 use Prim.Native.Nat.{ℕ, _<_, _≤_}
 use native.Mathlib.Omega.{arith}
-use lib.Dec.{ltb, leb}
 use borrow.Author.Tests.{lt-ltb, le-ltb, le-leb, lt-leb}
 use Rattle.notation.specs.Notation.{pick, with, if_then_else_, if_below_then_else_, unless_then_else_}
 use Rattle.semantics.specs.declared.Session.{Session}

@@ -1,7 +1,7 @@
 -- One evaluation: what is read of its result, under numbers that give each free truth 0 or 1, is what comes of the run at the allowance in the state
 -- before. With constants alone, a refusal for depth is a run that spends the allowance. Assumes nothing.
 use mathlib.Core.Path.{_≡_, refl, sym, ap, subst, _∙_}
-use mathlib.Core.Bool.{Bool, true, false, _&&_, _||_}
+use mathlib.Core.Bool.{Bool, true, false, _&&_}
 use mathlib.Core.List.{List}
 use Prim.Native.Nat.{ℕ, _+_}
 use native.Mathlib.Omega.{arith}
@@ -14,7 +14,7 @@ use Rattle.semantics.specs.declared.Outcome.the-variants.{Error}
 use Rattle.semantics.specs.Numbers.{depthSpent}
 use Rattle.semantics.specs.Steps.{settingOf, Got, gave, refused, Make}
 use Rattle.semantics.specs.Evaluation.{evalOf}
-use Rattle.semantics.specs.Run.{Value, truth, word, procedure, binding, none, Ended, gives, spends}
+use Rattle.semantics.specs.Run.{Value, truth, word, procedure, binding, none, gives, spends}
 use Rattle.semantics.specs.PlainRun.{valueGiven, endedOutcome}
 use Rattle.semantics.specs.Reading.{isTrue, readings, valueOutcome, resultOutcome, readIn}
 use Rattle.typing.proofs.Formed.{never}

@@ -1,17 +1,17 @@
 -- What tests 4 and 5 say of a rule that evaluation needs: a datum's op, an operator's code, and that a procedure's record is one of 4,096.
 -- Assumes nothing.
 use mathlib.Core.Path.{_≡_, refl, sym, ap, _∙_}
-use mathlib.Core.Bool.{Bool, true, false, not, _&&_, _||_}
-use mathlib.Core.List.{List, [], _∷_}
-use Prim.Native.Nat.{ℕ, zero, suc, _+_, _*_, _/_, _%_, _<_, _≤_}
+use mathlib.Core.Bool.{Bool, true, false, not, _||_}
+use mathlib.Core.List.{List}
+use Prim.Native.Nat.{ℕ, zero, suc, _*_, _%_, _<_, _≤_}
 use native.Mathlib.Omega.{arith}
-use lib.ListN.{length, getD, List·getD-eq-default}
+use lib.ListN.{length, List·getD-eq-default}
 use lib.Dec.{eqb, ltb}
-use borrow.Author.Tests.{eqb-true, eqb-false, ltb-true, ltb-false, eq-eqb, ne-eqb, lt-ltb, le-ltb}
+use borrow.Author.Tests.{eqb-true, eqb-false, ltb-true, ltb-false, ne-eqb, le-ltb}
 use Rattle.notation.specs.Notation.{pick, with, if_then_else_, if_equals_then_else_, if_below_then_else_, unless_then_else_}
 use Rattle.operators.specs.Operators.{rowOf, operandsOf}
 use Rattle.semantics.specs.declared.Record.{Record}
-use Rattle.semantics.specs.Numbers.{datumRecord, procedureRecord, operatorRecord, wordDatum, recordLimit, ruleBytes, ruleSize, badRecord, badTree, badPlace}
+use Rattle.semantics.specs.Numbers.{datumRecord, procedureRecord, operatorRecord, wordDatum, ruleBytes, ruleSize, badRecord, badTree, badPlace}
 use Rattle.semantics.specs.Records.{recordAt, recordsIn}
 use Rattle.semantics.specs.Rules.{upTo, badRuleSize, usesOf, shapedOf, linkedOf, scopedOf, testsOf, ruleRefusalOf}
 use Rattle.typing.proofs.Formed.{never, by-test}
