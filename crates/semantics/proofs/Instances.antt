@@ -1,0 +1,128 @@
+-- Demand 3 on small lists of rules, by computation, and two facts about terms that no reading shows. Crate `demands` proves it of every list, but
+-- above this crate: here a definition that no longer gives it is refused beside the definitions. Assumes nothing.
+use Prim.Native.Nat.{ℕ}
+use mathlib.Core.Path.{_≡_, refl}
+use mathlib.Core.Bool.{Bool, true, _||_}
+use mathlib.Core.List.{List, [], _∷_}
+use lib.ListN.{replicate}
+use Rattle.semantics.specs.declared.Input.{Input}
+use Rattle.semantics.specs.declared.Term.{Term}
+use Rattle.semantics.specs.declared.State.{State}
+use Rattle.semantics.specs.declared.Reading.{Reading as Read}
+use Rattle.semantics.specs.declared.Outcome.{Outcome}
+use Rattle.semantics.specs.declared.Outcome.the-variants.{Word, Error}
+use Rattle.semantics.specs.Numbers.{datumRecord, procedureRecord, callRecord, letRecord, ifRecord, abortRecord, errorRecord, falseDatum, wordDatum, wordTerm, procedureTerm, constantTruth, freeTruth}
+use Rattle.notation.specs.Notation as Notation
+use Rattle.operators.specs.Operators as Operators
+use Rattle.semantics.specs.Records as Records
+use Rattle.semantics.specs.Rules as Rules
+use Rattle.semantics.specs.Terms as Terms
+use Rattle.semantics.specs.Steps as Steps
+use Rattle.semantics.specs.Factory as Factory
+use Rattle.semantics.specs.Opening as Opening
+use Rattle.semantics.specs.States as States
+use Rattle.semantics.specs.Walk as Walk
+use Rattle.semantics.specs.Merge as Merge
+use Rattle.semantics.specs.Evaluation as Evaluation
+use Rattle.semantics.specs.Fits as Fits
+use Rattle.semantics.specs.Evaluate as Evaluate
+use Rattle.semantics.specs.Reading as Reading
+use Rattle.semantics.specs.Run as Run
+use Rattle.semantics.specs.PlainRun as PlainRun
+use Rattle.semantics.specs.History as History
+
+-- ---- the desk
+
+-- input 0 a free truth, the others constant false
+abbrev inputs : List Input
+inputs = record { kind = freeTruth; value = 0 } ∷ replicate 15 (record { kind = constantTruth; value = 0 })
+
+-- sixteen numbers, input 0's given
+abbrev under : ℕ → List ℕ
+under n = n ∷ replicate 15 0
+
+-- calls of these rules, at an allowance that is enough for each
+abbrev calls : List (List ℕ) → List History.Call
+calls [] = []
+calls (r ∷ rs) = record { rule = r; allowance = 3 } ∷ calls rs
+
+-- what they leave, from an opening on
+unfoldable pub desk : List (List ℕ) → History.History
+desk rs = History.calledAll (History.begun (Opening.openOf inputs (replicate 512 0))) (calls rs)
+
+-- ---- the rules
+
+-- the 8 bytes of a record, each field below 256
+abbrev bytes : ℕ → ℕ → ℕ → ℕ → ℕ → List ℕ → List ℕ
+bytes k o p q r rest = k ∷ o ∷ p ∷ 0 ∷ q ∷ 0 ∷ r ∷ 0 ∷ rest
+
+-- "if place 0, word 7, else error"
+abbrev sevenOrError : List ℕ
+sevenOrError = bytes ifRecord 0 0 1 2 (bytes datumRecord wordDatum 7 0 0 (bytes errorRecord 0 0 0 0 []))
+
+abbrev abort : List ℕ
+abort = bytes abortRecord 0 0 0 0 []
+
+-- a procedure that gives the word w
+abbrev giving : ℕ → List ℕ
+giving w = bytes procedureRecord 0 1 0 0 (bytes datumRecord wordDatum w 0 0 [])
+
+-- let f be: if place 0, a procedure that gives 7, else false. A call of f.
+abbrev callOfEither : List ℕ
+callOfEither =
+    bytes letRecord 0 1 2 0 (bytes ifRecord 0 0 3 4 (bytes callRecord 0 0 0 0 (
+    bytes procedureRecord 0 5 0 0 (bytes datumRecord falseDatum 0 0 0 (bytes datumRecord wordDatum 7 0 0 [])))))
+
+-- ---- demand 3 of what a list of calls left, where input 0 is given n
+
+-- What is read of the last accepted result, what running the accepted rules in turn gives, and whether S or T is read as true.
+pub record Sides : Type 0 where
+  pub read : Outcome
+  pub run : Outcome
+  pub legal : Bool
+
+-- whether S or T is read as true, of the readings of all terms
+unfoldable pub oneTrue : State → List Read → Bool
+oneTrue x vs = Reading.isTrue (Reading.nth vs (x .assumed)) || Reading.isTrue (Reading.nth vs (x .asserted))
+
+unfoldable pub sides : ℕ → History.History → Sides
+sides n h =
+    record {
+      read = Reading.readOf (h .session) (h .table) (under n) (h .result) (replicate (h .session .count) 0) .0;
+      run = PlainRun.endedOutcome (History.runOfRules inputs (under n) (h .rules));
+      legal = oneTrue (h .session .state) (Reading.readings (under n) (Terms.termsIn (h .table) (h .session .count)));
+    }
+
+-- demand 3 holds: reading and run both give o, and S or T is true
+abbrev both : Outcome → Sides
+both o = record { read = o; run = o; legal = true }
+
+-- the term of the last accepted value
+unfoldable pub valueTerm : History.History → Term
+valueTerm h = Terms.at (Terms.termsIn (h .table) (h .session .count)) (h .result .value)
+
+-- ---- the instances
+pub record Instances : Type 0 where
+  -- the printed case: each branch is merged under its own guard, and the reported depth is enough for the run
+  pub printed-case : sides 1 (desk (sevenOrError ∷ [])) ≡ both (Word 7)
+  -- against document 01's "Plausible, and false": "Assuming by plain and, without T: after an error both formulas can fail."
+  pub abort-after-error : sides 0 (desk (sevenOrError ∷ abort ∷ [])) ≡ both Error
+  -- "Dropping the asserted 'is some procedure' when a call has targets."
+  pub no-target-called : sides 0 (desk (callOfEither ∷ [])) ≡ both Error
+  -- "Giving a halted branch the value false in a merge.": the value is word 7 and no choice. No reading tells them apart, since S or T reads as
+  -- false wherever a branch has halted.
+  pub halted-without-value : valueTerm (desk (sevenOrError ∷ [])) ≡ Terms.term wordTerm 0 7 0 0
+  -- "Sharing a procedure term between two rules because record and bindings agree.": the second rule's has the count 1. No reading tells them
+  -- apart, since no rule meets another's values.
+  pub procedure-of-its-rule : valueTerm (desk (giving 7 ∷ giving 8 ∷ [])) ≡ Terms.term procedureTerm 0 0 18 1
+
+pub instances : Instances
+unfolding Notation.if_then_else_ Notation.if_equals_then_else_ Notation.if_below_then_else_ Notation.unless_then_else_ Notation.with Operators.rowOf Operators.givesTruthOf Records.recordAt Rules.upTo Rules.every Rules.badRuleSize Rules.usesOf Rules.fieldOf Rules.shapedOf Rules.partsOf Rules.insideOf Rules.timesIn Rules.timesBelow Rules.onceOf Rules.linkedOf Rules.placesOf Rules.toldOf Rules.bindingsBelow Rules.scopedOf Rules.testsOf Rules.ruleRefusalOf Terms.termAt Terms.bytesOf Terms.termsIn Terms.put Terms.imageOf Terms.at Terms.sameOf Terms.findOf Terms.sortOf Terms.knownOf Terms.namesTruth Terms.namesBinding Terms.namesValue Terms.operandsLaidOut Terms.laidOut Terms.wellFormed Steps._>>=_ Steps.give Steps.refuse Steps._▹_ Steps.each Steps.reads Steps.up Steps.makeOf Factory.notOf Factory.andOf Factory.orOf Factory.impliesOf Factory.choiceOf Factory.truthOf Opening.badTableSize Opening.inputTaken Opening.inputTerm Opening.inputsOf Opening.chainOf Opening.openingOf Opening.opening Opening.openOf States.mergeAssumedOf States.mergeAssertedOf States.assumeOf States.assertOf States.haltsOf Walk.leafOf Walk.sideOf Walk.leftSideOf Walk.rightSideOf Walk.sidesOf Walk.nodeOf Walk.walkOf Walk.orTargetOf Walk.aimOf Merge.mergeStatesOf Merge.valueStepOf Merge.mergeValuesOf Merge.finishOf Merge.mergeOf Evaluation.placeOf Evaluation.datumOf Evaluation.procedureOf Evaluation.abortOf Evaluation.errorOf Evaluation.underOf Evaluation.letOf Evaluation.forkOf Evaluation.branchesOf Evaluation.bothOf Evaluation.ifOf Evaluation.applyOf Evaluation.targetOf Evaluation.targetsOf Evaluation.callOf Evaluation.expressionOf Evaluation.liveOf Evaluation.evalOf Fits.sameTerms Fits.noFree Fits.isZero Fits.fitsOf Evaluate.refusedBy Evaluate.haltedAgain Evaluate.evaluated Evaluate.badDepth Evaluate.evaluateOf Reading.isTrue Reading.isTruth Reading.operatorReading Reading.termReading Reading.nth Reading.readings Reading.valueOutcome Reading.resultOutcome Reading.numbersTaken Reading.resultTaken Reading.readIn Reading.readOutcome Reading.readOf Run.after Run.placed Run.isFalse Run.datumValue Run.callRun Run.expressionRun Run.runOf Run.inputValue Run.inputsBound PlainRun.valueGiven PlainRun.endedOutcome History.called History.calledAll History.ranOn History.ranAll History.runOfRules desk oneTrue sides valueTerm
+instances =
+    record {
+      printed-case = refl;
+      abort-after-error = refl;
+      no-target-called = refl;
+      halted-without-value = refl;
+      procedure-of-its-rule = refl;
+    }
