@@ -1,1 +1,3 @@
-mod Zeros
+mod Taken
+mod Written
+mod Answers

@@ -1,6 +1,6 @@
 -- `desk::desk_read` meets its contract. Assumes nothing.
 use borrow.Author.Needs.{needs}
-use Rattle.desk.proofs.Zeros.{work-zero}
+use Rattle.desk.proofs.Answers.{read-unformed, read-place, read-whole}
 use Rattle.desk.proofs.desk_read.Statement.{statement}
 use Rattle.desk.proofs.desk_read.Tie as tie
 
@@ -14,7 +14,7 @@ same-length : tie.Need-same-length
 same-length c = search needs
 
 returns : tie.Need-returns
-returns c = search needs
+returns c = search (needs, read-unformed)
 
 session-in-requires : tie.Need-session-in-requires
 session-in-requires c κs = search needs
@@ -29,7 +29,7 @@ read-requires : tie.Need-read-requires
 read-requires c κs = search needs
 
 answered-requires : tie.Need-answered-requires
-answered-requires c κs = search needs
+answered-requires c κs = search read-place
 
 same-length-2 : tie.Need-same-length-2
 same-length-2 c = search needs
@@ -38,7 +38,7 @@ same-length-3 : tie.Need-same-length-3
 same-length-3 c = search needs
 
 returns-2 : tie.Need-returns-2
-returns-2 c = search (needs, work-zero)
+returns-2 c = search (needs, read-whole)
 
 pub desk-read-spec : {M : Type 1} → statement M
 desk-read-spec =

@@ -1,7 +1,7 @@
 -- `desk::desk_run` meets its contract. Assumes nothing.
 use borrow.Author.Needs.{needs}
 use Rattle.operations.proofs.Answers.{all-wiped}
-use Rattle.desk.proofs.Zeros.{store-zero}
+use Rattle.desk.proofs.Answers.{run-unformed, run-place, run-whole}
 use Rattle.desk.proofs.desk_run.Statement.{statement}
 use Rattle.desk.proofs.desk_run.Tie as tie
 
@@ -15,7 +15,7 @@ same-length : tie.Need-same-length
 same-length c = search needs
 
 returns : tie.Need-returns
-returns c = search all-wiped
+returns c = search (needs, all-wiped, run-unformed)
 
 inputs-in-requires : tie.Need-inputs-in-requires
 inputs-in-requires c κs = search needs
@@ -27,7 +27,7 @@ run-plainly-requires : tie.Need-run-plainly-requires
 run-plainly-requires c κs = search needs
 
 answered-requires : tie.Need-answered-requires
-answered-requires c κs = search needs
+answered-requires c κs = search run-place
 
 same-length-2 : tie.Need-same-length-2
 same-length-2 c = search needs
@@ -36,7 +36,7 @@ same-length-3 : tie.Need-same-length-3
 same-length-3 c = search needs
 
 returns-2 : tie.Need-returns-2
-returns-2 c = search (needs, store-zero)
+returns-2 c = search (needs, run-whole)
 
 pub desk-run-spec : {M : Type 1} → statement M
 desk-run-spec =

@@ -1,20 +1,23 @@
--- `desk::inputs_in` is safe and ends. The invariant: i is at most 16, and the array has 16 inputs. The measure is what is left of 16.
+-- `forms::inputs_in` meets its contract. The invariant: the inputs before i are read. The measure is what is left of 16.
 -- Assumes nothing.
-use Prim.Native.Nat.{_-_, _≤_}
 use borrow.Author.Needs.{needs}
 use mathlib.Core.Path.{_≡_}
-use lib.ListN.{length}
-use Rattle.desk.proofs.inputs_in.Statement.{statement}
-use Rattle.desk.proofs.inputs_in.Tie as tie
+use Prim.Native.Nat.{_-_, _≤_}
+use lib.ListN.{length, take}
+use Rattle.semantics.specs.Print.{inputAt}
+use Rattle.desk.specs.Forms.{eachBelow}
+use Rattle.desk.proofs.Taken.{each-start, each-more, inputs-all}
+use Rattle.desk.proofs.forms.inputs_in.Statement.{statement}
+use Rattle.desk.proofs.forms.inputs_in.Tie as tie
 
 abbrev Inv-loop : tie.InvT-loop
-Inv-loop s inputs₀ i₀ inputs i = (i ≤ 16) × (length inputs ≡ 16)
+Inv-loop s inputs₀ i₀ inputs i = (i ≤ 16) × (length inputs ≡ 16) × (take i inputs ≡ eachBelow (inputAt s) i)
 
 abbrev μ-loop : tie.MeasureT-loop
 μ-loop s inputs₀ i₀ inputs i = 16 - i
 
 loop-holds : tie.Need-loop-holds Inv-loop μ-loop
-loop-holds c = search needs
+loop-holds c = (search needs, search needs, search each-start)
 
 input-in-requires : tie.Need-input-in-requires Inv-loop μ-loop
 input-in-requires c κs = search needs
@@ -35,10 +38,10 @@ loop-less : tie.Need-loop-less Inv-loop μ-loop
 loop-less c = search needs
 
 loop-again : tie.Need-loop-again Inv-loop μ-loop
-loop-again c = search needs
+loop-again c = (search needs, search needs, search (needs, each-more))
 
 returns : tie.Need-returns Inv-loop μ-loop
-returns c = search needs
+returns c = search (needs, inputs-all)
 
 pub inputs-in-spec : {M : Type 1} → statement M
 inputs-in-spec =

@@ -1,20 +1,24 @@
--- `desk::put_inputs` is safe and ends. The invariant: i is at most 16, and the slice keeps its length. The measure is what is left of 16.
+-- `forms::put_inputs` meets its contract. The invariant: the inputs before i are written. The measure is what is left of 16.
 -- Assumes nothing.
-use Prim.Native.Nat.{_-_, _≤_}
 use borrow.Author.Needs.{needs}
 use mathlib.Core.Path.{_≡_}
-use lib.ListN.{length}
-use Rattle.desk.proofs.put_inputs.Statement.{statement}
-use Rattle.desk.proofs.put_inputs.Tie as tie
+use Prim.Native.Nat.{_-_, _≤_}
+use native.Mathlib.Omega.{arith}
+use lib.ListN.{length, take}
+use lib.Seq.{sets}
+use Rattle.desk.specs.Forms.{inputsBytes}
+use Rattle.desk.proofs.Written.{inputs-none, inputs-more, inputs-long, inputs-done}
+use Rattle.desk.proofs.forms.put_inputs.Statement.{statement}
+use Rattle.desk.proofs.forms.put_inputs.Tie as tie
 
 abbrev Inv-loop : tie.InvT-loop
-Inv-loop s₀ inputs i₀ s i = (i ≤ 16) × (length s ≡ length s₀)
+Inv-loop s₀ inputs i₀ s i = (i ≤ 16) × (length s ≡ length s₀) × (s ≡ sets s₀ 0 (inputsBytes (take i inputs)))
 
 abbrev μ-loop : tie.MeasureT-loop
 μ-loop s₀ inputs i₀ s i = 16 - i
 
 loop-holds : tie.Need-loop-holds Inv-loop μ-loop
-loop-holds c = search needs
+loop-holds c = (search needs, search needs, search (needs, inputs-none))
 
 cast-put-input : tie.Need-cast-put-input Inv-loop μ-loop
 cast-put-input c = search needs
@@ -35,13 +39,13 @@ loop-less : tie.Need-loop-less Inv-loop μ-loop
 loop-less c = search needs
 
 loop-again : tie.Need-loop-again Inv-loop μ-loop
-loop-again c = search needs
+loop-again c = (search needs, search needs, inputs-more _ _ _ (omega arith) (c .before .before .before .before .before .before .loop .inv .2) _ (c .before .before .put-input .ensures))
 
 same-length : tie.Need-same-length Inv-loop μ-loop
 same-length c = search needs
 
 returns : tie.Need-returns Inv-loop μ-loop
-returns c = search needs
+returns c = (search (needs, inputs-long), search (needs, inputs-done))
 
 pub put-inputs-spec : {M : Type 1} → statement M
 put-inputs-spec =

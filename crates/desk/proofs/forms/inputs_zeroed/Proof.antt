@@ -1,17 +1,23 @@
--- `desk::inputs_zeroed` is safe and ends. The invariant: i is at most 16. The measure is what is left of 16. Assumes nothing.
-use Prim.Native.Nat.{_-_, _≤_}
+-- `forms::inputs_zeroed` meets its contract. The invariant: the zeros before i are there. The measure is what is left of 16.
+-- Assumes nothing.
 use borrow.Author.Needs.{needs}
-use Rattle.desk.proofs.inputs_zeroed.Statement.{statement}
-use Rattle.desk.proofs.inputs_zeroed.Tie as tie
+use mathlib.Core.Path.{_≡_}
+use mathlib.Core.Bool.{true}
+use Prim.Native.Nat.{_-_, _≤_}
+use Rattle.semantics.specs.Rules.{upTo}
+use Rattle.rules.proofs.Follow.{up-start}
+use Rattle.desk.proofs.Taken.{zeroAfter, zeroed-miss, zeroed-more, zeroed-all}
+use Rattle.desk.proofs.forms.inputs_zeroed.Statement.{statement}
+use Rattle.desk.proofs.forms.inputs_zeroed.Tie as tie
 
 abbrev Inv-loop : tie.InvT-loop
-Inv-loop s i₀ i = i ≤ 16
+Inv-loop s i₀ i = (i ≤ 16) × (upTo i (zeroAfter s) ≡ true)
 
 abbrev μ-loop : tie.MeasureT-loop
 μ-loop s i₀ i = 16 - i
 
 loop-holds : tie.Need-loop-holds Inv-loop μ-loop
-loop-holds c = search needs
+loop-holds c = (search needs, up-start _)
 
 mul-byte : tie.Need-mul-byte Inv-loop μ-loop
 mul-byte c = search needs
@@ -23,7 +29,7 @@ byte-requires : tie.Need-byte-requires Inv-loop μ-loop
 byte-requires c κs = search needs
 
 returns : tie.Need-returns Inv-loop μ-loop
-returns c = search needs
+returns c = search (needs, zeroed-miss)
 
 add-i : tie.Need-add-i Inv-loop μ-loop
 add-i c = search needs
@@ -32,10 +38,10 @@ loop-less : tie.Need-loop-less Inv-loop μ-loop
 loop-less c = search needs
 
 loop-again : tie.Need-loop-again Inv-loop μ-loop
-loop-again c = search needs
+loop-again c = (search needs, search (needs, zeroed-more))
 
 returns-2 : tie.Need-returns-2 Inv-loop μ-loop
-returns-2 c = search needs
+returns-2 c = search (needs, zeroed-all)
 
 pub inputs-zeroed-spec : {M : Type 1} → statement M
 inputs-zeroed-spec =

@@ -1,20 +1,23 @@
--- `desk::numbers_in` is safe and ends. The invariant: i is at most 16, and the array has 16 numbers. The measure is what is left of 16.
+-- `forms::numbers_in` meets its contract. The invariant: the numbers before i are read. The measure is what is left of 16.
 -- Assumes nothing.
-use Prim.Native.Nat.{_-_, _≤_}
 use borrow.Author.Needs.{needs}
 use mathlib.Core.Path.{_≡_}
-use lib.ListN.{length}
-use Rattle.desk.proofs.numbers_in.Statement.{statement}
-use Rattle.desk.proofs.numbers_in.Tie as tie
+use Prim.Native.Nat.{_-_, _*_, _≤_}
+use lib.ListN.{length, take}
+use Rattle.semantics.specs.Records.{pairAt}
+use Rattle.desk.specs.Forms.{eachBelow}
+use Rattle.desk.proofs.Taken.{each-start, each-more, numbers-all}
+use Rattle.desk.proofs.forms.numbers_in.Statement.{statement}
+use Rattle.desk.proofs.forms.numbers_in.Tie as tie
 
 abbrev Inv-loop : tie.InvT-loop
-Inv-loop s numbers₀ i₀ numbers i = (i ≤ 16) × (length numbers ≡ 16)
+Inv-loop s numbers₀ i₀ numbers i = (i ≤ 16) × (length numbers ≡ 16) × (take i numbers ≡ eachBelow (λ j. pairAt s (2 * j)) i)
 
 abbrev μ-loop : tie.MeasureT-loop
 μ-loop s numbers₀ i₀ numbers i = 16 - i
 
 loop-holds : tie.Need-loop-holds Inv-loop μ-loop
-loop-holds c = search needs
+loop-holds c = (search needs, search needs, search each-start)
 
 mul-two : tie.Need-mul-two Inv-loop μ-loop
 mul-two c = search needs
@@ -38,10 +41,10 @@ loop-less : tie.Need-loop-less Inv-loop μ-loop
 loop-less c = search needs
 
 loop-again : tie.Need-loop-again Inv-loop μ-loop
-loop-again c = search needs
+loop-again c = (search needs, search needs, search (needs, each-more))
 
 returns : tie.Need-returns Inv-loop μ-loop
-returns c = search needs
+returns c = search (needs, numbers-all)
 
 pub numbers-in-spec : {M : Type 1} → statement M
 numbers-in-spec =

@@ -1,0 +1,123 @@
+-- The byte forms of the library: how a list of bytes stands for what an operation takes or gives. A number of two bytes has the low one
+-- first. Each form has one length. Assumes nothing.
+use Prim.Native.Nat.{ℕ, zero, suc, _+_, _*_, _/_, _%_}
+use mathlib.Core.Bool.{Bool, _&&_}
+use mathlib.Core.List.{List, [], _∷_, _++_}
+use lib.Dec.{eqb, ltb}
+use lib.ListN.{getD, length}
+use Rattle.notation.specs.Notation.{bit}
+use Rattle.semantics.specs.declared.Input.{Input}
+use Rattle.semantics.specs.declared.State.{State}
+use Rattle.semantics.specs.declared.Result.{Result}
+use Rattle.semantics.specs.declared.Session.{Session}
+use Rattle.semantics.specs.Numbers.{inputCount}
+use Rattle.semantics.specs.Records.{pairAt}
+use Rattle.semantics.specs.Rules.{upTo}
+use Rattle.semantics.specs.Print.{inputAt}
+
+-- ---- the lengths
+abbrev pub inputsLength : ℕ
+inputsLength = 64
+
+abbrev pub sessionLength : ℕ
+sessionLength = 74
+
+abbrev pub numbersLength : ℕ
+numbersLength = 32
+
+abbrev pub resultLength : ℕ
+resultLength = 8
+
+abbrev pub answerLength : ℕ
+answerLength = 10
+
+abbrev pub readingLength : ℕ
+readingLength = 4
+
+-- ---- from bytes
+
+-- f of each number below n, in order
+unfoldable pub eachBelow : {A : Type 0} → (ℕ → A) → ℕ → List A
+eachBelow f zero = []
+eachBelow f (suc n) = eachBelow f n ++ (f n ∷ [])
+
+-- inputs: 16 times a kind, a zero and a value of two bytes, as the printing program reads them
+unfoldable pub inputsIn : List ℕ → List Input
+inputsIn s = eachBelow (inputAt s) inputCount
+
+unfoldable pub inputsZeroed : List ℕ → Bool
+inputsZeroed s = upTo inputCount λ i. eqb (getD s (4 * i + 1) 0) 0
+
+unfoldable pub inputsFormed : List ℕ → Bool
+inputsFormed s = eqb (length s) inputsLength && inputsZeroed s
+
+-- numbers: 16 times two bytes
+unfoldable pub numbersIn : List ℕ → List ℕ
+numbersIn s = eachBelow (λ i. pairAt s (2 * i)) inputCount
+
+-- a halted mark: 0 or 1, and a zero after it
+unfoldable pub markFormed : List ℕ → ℕ → Bool
+markFormed s i = ltb (getD s i 0) 2 && eqb (getD s (i + 1) 0) 0
+
+-- session: the inputs; count, S, T and accepted rules, two bytes each; the halted mark
+unfoldable pub sessionIn : List ℕ → Session
+sessionIn s =
+    record {
+      inputs = inputsIn s;
+      count = pairAt s 64;
+      state = record { assumed = pairAt s 66; asserted = pairAt s 68 };
+      halted = eqb (getD s 72 0) 1;
+      accepted = pairAt s 70;
+    }
+
+unfoldable pub sessionFormed : List ℕ → Bool
+sessionFormed s = eqb (length s) sessionLength && (inputsZeroed s && markFormed s 72)
+
+-- result: S, T and the value, two bytes each; the halted mark
+unfoldable pub resultIn : List ℕ → Result
+resultIn s = record { state = record { assumed = pairAt s 0; asserted = pairAt s 2 }; value = pairAt s 4; halted = eqb (getD s 6 0) 1 }
+
+unfoldable pub resultFormed : List ℕ → Bool
+resultFormed s = eqb (length s) resultLength && markFormed s 6
+
+-- ---- to bytes
+
+-- numbers of two bytes each
+abbrev pub pairsOf : List ℕ → List ℕ
+pairsOf [] = []
+pairsOf (n ∷ ns) = n % 256 ∷ n / 256 ∷ pairsOf ns
+
+abbrev pub inputBytes : Input → List ℕ
+inputBytes x = x .kind ∷ 0 ∷ pairsOf (x .value ∷ [])
+
+unfoldable pub inputsBytes : List Input → List ℕ
+inputsBytes [] = []
+inputsBytes (x ∷ xs) = inputBytes x ++ inputsBytes xs
+
+-- a session, cut as above
+unfoldable pub sessionBytes : Session → List ℕ
+sessionBytes x = inputsBytes (x .inputs) ++ (pairsOf (x .count ∷ x .state .assumed ∷ x .state .asserted ∷ x .accepted ∷ []) ++ (bit (x .halted) ∷ 0 ∷ []))
+
+-- answer: the halted mark; S, T, the value (0 of a halt) and the depth, two bytes each
+abbrev pub answerBytes : Bool → State → ℕ → ℕ → List ℕ
+answerBytes halted x v d = bit halted ∷ 0 ∷ pairsOf (x .assumed ∷ x .asserted ∷ v ∷ d ∷ [])
+
+-- reading: what was read, a zero, and its number of two bytes
+abbrev pub readingBytes : ℕ → ℕ → List ℕ
+readingBytes tag n = tag ∷ 0 ∷ pairsOf (n ∷ [])
+
+-- what a reading's first byte says: a truth, a word, a procedure, an abort or an error
+abbrev pub aTruth : ℕ
+aTruth = 0
+
+abbrev pub aWord : ℕ
+aWord = 1
+
+abbrev pub aProcedure : ℕ
+aProcedure = 2
+
+abbrev pub anAbort : ℕ
+anAbort = 3
+
+abbrev pub anError : ℕ
+anError = 4
