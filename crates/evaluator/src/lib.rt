@@ -11,13 +11,11 @@ use semantics::numbers;
 use states::Standing;
 ghost use mathlib.Core.Path.{_≡_};
 ghost use mathlib.Core.List.{[], _∷_};
-ghost use Prim.Native.Nat.{_+_, _<_, _≤_};
-ghost use Rattle.semantics.specs.Steps.{each};
+ghost use Prim.Native.Nat.{_≤_};
 ghost use Rattle.semantics.specs.Merge.{mergeOf};
-ghost use Rattle.semantics.specs.Evaluation.{underOf, letOf, forkOf, branchesOf, bothOf, ifOf, applyOf, targetOf, targetsOf, callOf, expressionOf, liveOf, evalOf};
+ghost use Rattle.semantics.specs.Evaluation.{underOf, letOf, forkOf, branchesOf, bothOf, ifOf, applyOf, targetsOf, callOf, expressionOf, liveOf, evalOf};
 ghost use Rattle.terms.specs.Gives.{from, Gives, Within};
 ghost use Rattle.walk.specs.Leaves.{noLeaf};
-ghost use Rattle.merge.specs.Branches.{noBranch};
 
 // Not g, and the states that assume g and not g; or a refusal, where it is not 0.
 pub struct Forked {
@@ -35,15 +33,6 @@ pub struct Branched {
     pub used: u16,
     pub first: Branch,
     pub second: Branch,
-}
-
-// The results of a call's targets: the first `have` of the list.
-pub struct Applied {
-    pub refusal: u8,
-    pub count: u16,
-    pub used: u16,
-    pub have: usize,
-    pub branches: [Branch; 64],
 }
 
 // The expression at record i, with at most the depth given; depth zero is refused before all else.
@@ -387,7 +376,7 @@ fn call(
     targets(table, rule, d, leaves, m.have, arg, y, m.count, before)
 }
 
-// The targets among the first n leaves, merged over the asserted state.
+// The targets among the first n leaves, each run in turn, merged over the asserted state.
 fn targets(
     table: &mut [u8],
     rule: &[u8],
@@ -402,98 +391,35 @@ fn targets(
     requires { ⌜ n ≤ 64 ⌝ }
     ensures { λ r. ⌜ Within d (targetsOf (evalOf (now (rule .entry)) before d) (now (rule .entry)) arg x (from noLeaf leaves 0 n)) (now (table .entry)) count (r .refusal) (r .count) (r .used) (r .result) (now (table .exit)) ⌝ }
 {
-    let e = apply_all(table, rule, d, leaves, n, arg, x, count, before);
-    if e.refusal != 0 {
-        return expressions::stop(e.refusal, e.count, x);
-    }
-    let l = e.branches;
-    let m = merge::merge(table, e.count, x, l, e.have);
-    let z = m.result;
-    Out {
-        refusal: m.refusal,
-        count: m.count,
-        used: e.used,
-        result: z,
-    }
-}
-
-// Each target in turn.
-fn apply_all(
-    table: &mut [u8],
-    rule: &[u8],
-    d: u16,
-    leaves: [Leaf; 64],
-    n: usize,
-    arg: u16,
-    x: State,
-    count: u16,
-    before: u16,
-) -> Applied
-    requires { ⌜ n ≤ 64 ⌝ }
-    ensures { λ r. ⌜ Within d (each (targetOf (evalOf (now (rule .entry)) before d) (now (rule .entry)) arg x) [] (from noLeaf leaves 0 n)) (now (table .entry)) count (r .refusal) (r .count) (r .used) (from noBranch (r .branches) 0 (r .have)) (now (table .exit)) ⌝ }
-{
     let mut list = [merge::NO_BRANCH; 64];
     let mut have: usize = 0;
     let mut used: u16 = 0;
     let mut c = count;
     let mut i: usize = 0;
     while i < n {
-        let l = walk::leaf_of(leaves, i);
-        let j = target(table, rule, d, l, arg, x, list, have, c, before);
-        if j.refusal != 0 {
-            return j;
-        }
-        list = j.branches;
-        have = j.have;
-        used = expressions::deeper(used, j.used);
-        c = j.count;
+        let l = leaves[i];
         i += 1;
-    }
-    Applied {
-        refusal: 0,
-        count: c,
-        used: used,
-        have: have,
-        branches: list,
-    }
-}
-
-// A target's result after those before it; any other leaf gives none.
-fn target(
-    table: &mut [u8],
-    rule: &[u8],
-    d: u16,
-    l: Leaf,
-    arg: u16,
-    x: State,
-    list: [Branch; 64],
-    have: usize,
-    count: u16,
-    before: u16,
-) -> Applied
-    requires { ⌜ have < 64 ⌝ }
-    ensures { λ r. ⌜ (Within d (targetOf (evalOf (now (rule .entry)) before d) (now (rule .entry)) arg x (from noBranch list 0 have) l) (now (table .entry)) count (r .refusal) (r .count) (r .used) (from noBranch (r .branches) 0 (r .have)) (now (table .exit))) × (r .have ≤ have + 1) ⌝ }
-{
-    let t = l.term;
-    if t.kind == numbers::PROCEDURE_TERM {
-        let o = apply(table, rule, d, l, arg, x, count, before);
+        let t = l.term;
+        if t.kind != numbers::PROCEDURE_TERM {
+            continue;
+        }
+        let o = apply(table, rule, d, l, arg, x, c, before);
+        if o.refusal != 0 {
+            return o;
+        }
         let r = o.result;
-        let mut more = list;
-        more[have] = merge::branch(l.guard, r);
-        return Applied {
-            refusal: o.refusal,
-            count: o.count,
-            used: o.used,
-            have: have + 1,
-            branches: more,
-        };
+        list[have] = merge::branch(l.guard, r);
+        have += 1;
+        used = expressions::deeper(used, o.used);
+        c = o.count;
     }
-    Applied {
-        refusal: 0,
-        count: count,
-        used: 0,
-        have: have,
-        branches: list,
+    let m = merge::merge(table, c, x, list, have);
+    let z = m.result;
+    Out {
+        refusal: m.refusal,
+        count: m.count,
+        used: used,
+        result: z,
     }
 }
 

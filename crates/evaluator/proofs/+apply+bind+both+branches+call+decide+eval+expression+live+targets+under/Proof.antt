@@ -1,61 +1,55 @@
 -- Evaluating an expression and applying a procedure: `evaluator::eval` and the functions that it goes through meet their contracts, each by following
--- the text of its definition. The measure is the depth, eleven times over, and a number by which each function on the way to the next expression is below
+-- the text of its definition. The measure is the depth, seven times over, and a number by which each function on the way to the next expression is below
 -- the one that calls it. The invariant of the loop over the targets: what is left, from leaf i on, leads from the start. Assumes nothing.
 use borrow.Author.Needs.{needs}
-use mathlib.Core.Path.{_≡_, refl}
+use mathlib.Core.Path.{_≡_, refl, _∙_}
 use mathlib.Core.List.{[]}
 use Prim.Native.Nat.{ℕ, _+_, _*_, _-_, _<_, _≤_}
-use lib.ListN.{length}
+use lib.ListN.{length, length-set}
 use native.Mathlib.Nat.{sub-zero}
 use native.Mathlib.Omega.{arith}
 use Rattle.semantics.specs.Steps.{each}
 use Rattle.semantics.specs.Evaluation.{underOf, letOf, branchesOf, bothOf, ifOf, applyOf, targetOf, targetsOf, callOf, expressionOf, liveOf, evalOf}
 use Rattle.terms.specs.Gives.{from, Leads}
-use Rattle.terms.proofs.Steps.{steps, runs, leads-start, each-end, each-stop, each-next, then-map, run-end, run-on, if-true, gives-value, on-read, then-on, if-ne, if-eq}
+use Rattle.terms.proofs.Steps.{steps, runs, leads-start, each-end, each-stop, each-next, then-map, run-stop, run-end, run-on, if-true, gives-value, on-read, then-on, if-ne, if-eq}
 use Rattle.walk.specs.Leaves.{noLeaf}
 use Rattle.merge.specs.Branches.{noBranch}
-use Rattle.evaluator.proofs.Laws.{evals, branch-push}
+use Rattle.evaluator.proofs.Laws.{evals, target-passed, target-run, branch-push}
 use borrow.Fn.Kinds.{In}
 use borrow.Fn.PlainCycle.{Measures, is, falls, and}
 use Rattle.evaluator.proofs.apply.Reads as apply
 use Rattle.evaluator.proofs.apply.Kinds as apply-kinds
-use Rattle.evaluator.proofs.+apply+apply_all+bind+both+branches+call+decide+eval+expression+live+target+targets+under.Lts-apply as apply-lts
-use Rattle.evaluator.proofs.apply_all.Reads as apply-all
-use Rattle.evaluator.proofs.apply_all.Kinds as apply-all-kinds
-use Rattle.evaluator.proofs.+apply+apply_all+bind+both+branches+call+decide+eval+expression+live+target+targets+under.Lts-apply_all as apply-all-lts
+use Rattle.evaluator.proofs.+apply+bind+both+branches+call+decide+eval+expression+live+targets+under.Lts-apply as apply-lts
 use Rattle.evaluator.proofs.bind.Reads as bind
 use Rattle.evaluator.proofs.bind.Kinds as bind-kinds
-use Rattle.evaluator.proofs.+apply+apply_all+bind+both+branches+call+decide+eval+expression+live+target+targets+under.Lts-bind as bind-lts
+use Rattle.evaluator.proofs.+apply+bind+both+branches+call+decide+eval+expression+live+targets+under.Lts-bind as bind-lts
 use Rattle.evaluator.proofs.both.Reads as both
 use Rattle.evaluator.proofs.both.Kinds as both-kinds
-use Rattle.evaluator.proofs.+apply+apply_all+bind+both+branches+call+decide+eval+expression+live+target+targets+under.Lts-both as both-lts
+use Rattle.evaluator.proofs.+apply+bind+both+branches+call+decide+eval+expression+live+targets+under.Lts-both as both-lts
 use Rattle.evaluator.proofs.branches.Reads as branches
 use Rattle.evaluator.proofs.branches.Kinds as branches-kinds
-use Rattle.evaluator.proofs.+apply+apply_all+bind+both+branches+call+decide+eval+expression+live+target+targets+under.Lts-branches as branches-lts
+use Rattle.evaluator.proofs.+apply+bind+both+branches+call+decide+eval+expression+live+targets+under.Lts-branches as branches-lts
 use Rattle.evaluator.proofs.call.Reads as call
 use Rattle.evaluator.proofs.call.Kinds as call-kinds
-use Rattle.evaluator.proofs.+apply+apply_all+bind+both+branches+call+decide+eval+expression+live+target+targets+under.Lts-call as call-lts
+use Rattle.evaluator.proofs.+apply+bind+both+branches+call+decide+eval+expression+live+targets+under.Lts-call as call-lts
 use Rattle.evaluator.proofs.decide.Reads as decide
 use Rattle.evaluator.proofs.decide.Kinds as decide-kinds
-use Rattle.evaluator.proofs.+apply+apply_all+bind+both+branches+call+decide+eval+expression+live+target+targets+under.Lts-decide as decide-lts
+use Rattle.evaluator.proofs.+apply+bind+both+branches+call+decide+eval+expression+live+targets+under.Lts-decide as decide-lts
 use Rattle.evaluator.proofs.eval.Reads as eval
 use Rattle.evaluator.proofs.eval.Kinds as eval-kinds
-use Rattle.evaluator.proofs.+apply+apply_all+bind+both+branches+call+decide+eval+expression+live+target+targets+under.Lts-eval as eval-lts
+use Rattle.evaluator.proofs.+apply+bind+both+branches+call+decide+eval+expression+live+targets+under.Lts-eval as eval-lts
 use Rattle.evaluator.proofs.expression.Reads as expression
 use Rattle.evaluator.proofs.expression.Kinds as expression-kinds
-use Rattle.evaluator.proofs.+apply+apply_all+bind+both+branches+call+decide+eval+expression+live+target+targets+under.Lts-expression as expression-lts
+use Rattle.evaluator.proofs.+apply+bind+both+branches+call+decide+eval+expression+live+targets+under.Lts-expression as expression-lts
 use Rattle.evaluator.proofs.live.Reads as live
 use Rattle.evaluator.proofs.live.Kinds as live-kinds
-use Rattle.evaluator.proofs.+apply+apply_all+bind+both+branches+call+decide+eval+expression+live+target+targets+under.Lts-live as live-lts
-use Rattle.evaluator.proofs.target.Reads as target
-use Rattle.evaluator.proofs.target.Kinds as target-kinds
-use Rattle.evaluator.proofs.+apply+apply_all+bind+both+branches+call+decide+eval+expression+live+target+targets+under.Lts-target as target-lts
+use Rattle.evaluator.proofs.+apply+bind+both+branches+call+decide+eval+expression+live+targets+under.Lts-live as live-lts
 use Rattle.evaluator.proofs.targets.Reads as targets
 use Rattle.evaluator.proofs.targets.Kinds as targets-kinds
-use Rattle.evaluator.proofs.+apply+apply_all+bind+both+branches+call+decide+eval+expression+live+target+targets+under.Lts-targets as targets-lts
+use Rattle.evaluator.proofs.+apply+bind+both+branches+call+decide+eval+expression+live+targets+under.Lts-targets as targets-lts
 use Rattle.evaluator.proofs.under.Reads as under
 use Rattle.evaluator.proofs.under.Kinds as under-kinds
-use Rattle.evaluator.proofs.+apply+apply_all+bind+both+branches+call+decide+eval+expression+live+target+targets+under.Lts-under as under-lts
+use Rattle.evaluator.proofs.+apply+bind+both+branches+call+decide+eval+expression+live+targets+under.Lts-under as under-lts
 use Rattle.evaluator.proofs.fork.Reads as fork-reads
 use Rattle.evaluator.proofs.merge_both.Reads as merge-both-reads
 use Rattle.expressions.proofs.abort.Reads as abort-reads
@@ -77,65 +71,51 @@ use Rattle.states.proofs.Standing.halts.Reads as halts-reads
 use Rattle.terms.proofs.known.Reads as known-reads
 use Rattle.terms.proofs.make.Reads as make-reads
 use Rattle.walk.proofs.aim.Reads as aim-reads
-use Rattle.walk.proofs.leaf_of.Reads as leaf-of-reads
-use Rattle.evaluator.proofs.+apply+apply_all+bind+both+branches+call+decide+eval+expression+live+target+targets+under.{
+use Rattle.evaluator.proofs.+apply+bind+both+branches+call+decide+eval+expression+live+targets+under.{
   statement,
 }
-use Rattle.evaluator.proofs.+apply+apply_all+bind+both+branches+call+decide+eval+expression+live+target+targets+under.Tie.{
+use Rattle.evaluator.proofs.+apply+bind+both+branches+call+decide+eval+expression+live+targets+under.Tie.{
   close,
 }
 
 abbrev μ-apply : Measures 2 apply-kinds.ps ℕ
-μ-apply κs a = 11 * a .1 .1 .0 + 4
-
-abbrev μ-apply-all : Measures 2 apply-all-kinds.ps ℕ
-μ-apply-all κs a = 11 * a .1 .1 .0 + 6
+μ-apply κs a = 7 * a .1 .1 .0 + 2
 
 abbrev μ-bind : Measures 2 bind-kinds.ps ℕ
-μ-bind κs a = 11 * a .1 .1 .0 + 8
+μ-bind κs a = 7 * a .1 .1 .0 + 2
 
 abbrev μ-both : Measures 2 both-kinds.ps ℕ
-μ-both κs a = 11 * a .1 .1 .0 + 3
+μ-both κs a = 7 * a .1 .1 .0 + 2
 
 abbrev μ-branches : Measures 2 branches-kinds.ps ℕ
-μ-branches κs a = 11 * a .1 .1 .0 + 2
+μ-branches κs a = 7 * a .1 .1 .0 + 1
 
 abbrev μ-call : Measures 2 call-kinds.ps ℕ
-μ-call κs a = 11 * a .1 .1 .0 + 8
+μ-call κs a = 7 * a .1 .1 .0 + 4
 
 abbrev μ-decide : Measures 2 decide-kinds.ps ℕ
-μ-decide κs a = 11 * a .1 .1 .0 + 8
+μ-decide κs a = 7 * a .1 .1 .0 + 3
 
 abbrev μ-eval : Measures 2 eval-kinds.ps ℕ
-μ-eval κs a = 11 * a .1 .1 .0
+μ-eval κs a = 7 * a .1 .1 .0
 
 abbrev μ-expression : Measures 2 expression-kinds.ps ℕ
-μ-expression κs a = 11 * a .1 .1 .0 + 9
+μ-expression κs a = 7 * a .1 .1 .0 + 5
 
 abbrev μ-live : Measures 2 live-kinds.ps ℕ
-μ-live κs a = 11 * a .1 .1 .0 + 10
-
-abbrev μ-target : Measures 2 target-kinds.ps ℕ
-μ-target κs a = 11 * a .1 .1 .0 + 5
+μ-live κs a = 7 * a .1 .1 .0 + 6
 
 abbrev μ-targets : Measures 2 targets-kinds.ps ℕ
-μ-targets κs a = 11 * a .1 .1 .0 + 7
+μ-targets κs a = 7 * a .1 .1 .0 + 3
 
 abbrev μ-under : Measures 2 under-kinds.ps ℕ
-μ-under κs a = 11 * a .1 .1 .0 + 1
+μ-under κs a = 7 * a .1 .1 .0 + 1
 
 abbrev apply-at : ℕ → In 2 apply-kinds.ps
 apply-at t = and 2 apply-kinds.ps (is 2 apply-kinds.ps μ-apply t) apply.Pre
 
 abbrev apply-below : ℕ → In 2 apply-kinds.ps
 apply-below t = and 2 apply-kinds.ps (falls 2 apply-kinds.ps _<_ μ-apply t) apply.Pre
-
-abbrev apply-all-at : ℕ → In 2 apply-all-kinds.ps
-apply-all-at t = and 2 apply-all-kinds.ps (is 2 apply-all-kinds.ps μ-apply-all t) apply-all.Pre
-
-abbrev apply-all-below : ℕ → In 2 apply-all-kinds.ps
-apply-all-below t =
-    and 2 apply-all-kinds.ps (falls 2 apply-all-kinds.ps _<_ μ-apply-all t) apply-all.Pre
 
 abbrev bind-at : ℕ → In 2 bind-kinds.ps
 bind-at t = and 2 bind-kinds.ps (is 2 bind-kinds.ps μ-bind t) bind.Pre
@@ -188,12 +168,6 @@ live-at t = and 2 live-kinds.ps (is 2 live-kinds.ps μ-live t) live.Pre
 abbrev live-below : ℕ → In 2 live-kinds.ps
 live-below t = and 2 live-kinds.ps (falls 2 live-kinds.ps _<_ μ-live t) live.Pre
 
-abbrev target-at : ℕ → In 2 target-kinds.ps
-target-at t = and 2 target-kinds.ps (is 2 target-kinds.ps μ-target t) target.Pre
-
-abbrev target-below : ℕ → In 2 target-kinds.ps
-target-below t = and 2 target-kinds.ps (falls 2 target-kinds.ps _<_ μ-target t) target.Pre
-
 abbrev targets-at : ℕ → In 2 targets-kinds.ps
 targets-at t = and 2 targets-kinds.ps (is 2 targets-kinds.ps μ-targets t) targets.Pre
 
@@ -209,9 +183,6 @@ under-below t = and 2 under-kinds.ps (falls 2 under-kinds.ps _<_ μ-under t) und
 -- what each function may use of those that it calls
 abbrev apply-claims : ℕ → apply-lts.Claims
 apply-claims t = (assume-reads.Asked, assume-reads.Learnt, stop-reads.Asked, stop-reads.Learnt, record-at-reads.Asked, record-at-reads.Learnt, under-below t, under.Post)
-
-abbrev apply-all-claims : ℕ → apply-all-lts.Claims
-apply-all-claims t = (leaf-of-reads.Asked, leaf-of-reads.Learnt, target-below t, target.Post, deeper-reads.Asked, deeper-reads.Learnt)
 
 abbrev bind-claims : ℕ → bind-lts.Claims
 bind-claims t = (eval-below t, eval.Post, under-below t, under.Post, deeper-reads.Asked, deeper-reads.Learnt)
@@ -237,11 +208,8 @@ expression-claims t = (datum-reads.Asked, datum-reads.Learnt, variable-reads.Ask
 abbrev live-claims : ℕ → live-lts.Claims
 live-claims t = (halts-reads.Asked, halts-reads.Learnt, stop-reads.Asked, stop-reads.Learnt, record-at-reads.Asked, record-at-reads.Learnt, expression-below t, expression.Post)
 
-abbrev target-claims : ℕ → target-lts.Claims
-target-claims t = (apply-below t, apply.Post, branch-reads.Asked, branch-reads.Learnt)
-
 abbrev targets-claims : ℕ → targets-lts.Claims
-targets-claims t = (apply-all-below t, apply-all.Post, stop-reads.Asked, stop-reads.Learnt, merge-reads.Asked, merge-reads.Learnt)
+targets-claims t = (apply-below t, apply.Post, branch-reads.Asked, branch-reads.Learnt, deeper-reads.Asked, deeper-reads.Learnt, merge-reads.Asked, merge-reads.Learnt)
 
 abbrev under-claims : ℕ → under-lts.Claims
 under-claims t = (make-reads.Asked, make-reads.Learnt, stop-reads.Asked, stop-reads.Learnt, eval-below t, eval.Post)
@@ -271,46 +239,6 @@ apply-same-length-2 t c = search needs
 apply-returns-2 : (t : ℕ) → apply-lts.Need-returns-2 (apply-claims t) (apply-at t) apply.Post
 unfolding applyOf
 apply-returns-2 t c = record { gives = search runs depth 12; low = search needs }
-
-abbrev apply-all-Inv-loop : apply-all-lts.InvT-loop
-apply-all-Inv-loop table₀ rule d leaves n arg x count before list₀ have₀ used₀ c₀ i₀ table list have used c i = (((length table ≡ length table₀) × (have ≤ i)) × (used ≤ d)) × Leads (each (targetOf (evalOf rule before d) rule arg x) [] (from noLeaf leaves 0 n)) table₀ c₀ used (each (targetOf (evalOf rule before d) rule arg x) (from noBranch list 0 have) (from noLeaf leaves i (n - i))) table c
-
-abbrev apply-all-μ-loop : apply-all-lts.MeasureT-loop
-apply-all-μ-loop table₀ rule d leaves n arg x count before list₀ have₀ used₀ c₀ i₀ table list have used c i = n - i
-
-apply-all-loop-holds : (t : ℕ) → apply-all-lts.Need-loop-holds (apply-all-claims t) (apply-all-at t) apply-all.Post apply-all-Inv-loop apply-all-μ-loop
-unfolding from
-apply-all-loop-holds t c = (search needs, rw sub-zero (leads-start _ _ _))
-
-apply-all-leaf-of-requires : (t : ℕ) → apply-all-lts.Need-leaf-of-requires (apply-all-claims t) (apply-all-at t) apply-all.Post apply-all-Inv-loop apply-all-μ-loop
-apply-all-leaf-of-requires t c κs = search needs
-
-apply-all-target-requires : (t : ℕ) → apply-all-lts.Need-target-requires (apply-all-claims t) (apply-all-at t) apply-all.Post apply-all-Inv-loop apply-all-μ-loop
-apply-all-target-requires t c κs = search needs
-
-apply-all-same-length : (t : ℕ) → apply-all-lts.Need-same-length (apply-all-claims t) (apply-all-at t) apply-all.Post apply-all-Inv-loop apply-all-μ-loop
-apply-all-same-length t c = search needs
-
-apply-all-returns : (t : ℕ) → apply-all-lts.Need-returns (apply-all-claims t) (apply-all-at t) apply-all.Post apply-all-Inv-loop apply-all-μ-loop
-apply-all-returns t c = record { gives = search each-stop; low = search needs }
-
-apply-all-deeper-requires : (t : ℕ) → apply-all-lts.Need-deeper-requires (apply-all-claims t) (apply-all-at t) apply-all.Post apply-all-Inv-loop apply-all-μ-loop
-apply-all-deeper-requires t c κs = search needs
-
-apply-all-add-i : (t : ℕ) → apply-all-lts.Need-add-i (apply-all-claims t) (apply-all-at t) apply-all.Post apply-all-Inv-loop apply-all-μ-loop
-apply-all-add-i t c = search needs
-
-apply-all-loop-less : (t : ℕ) → apply-all-lts.Need-loop-less (apply-all-claims t) (apply-all-at t) apply-all.Post apply-all-Inv-loop apply-all-μ-loop
-apply-all-loop-less t c = search needs
-
-apply-all-loop-again : (t : ℕ) → apply-all-lts.Need-loop-again (apply-all-claims t) (apply-all-at t) apply-all.Post apply-all-Inv-loop apply-all-μ-loop
-apply-all-loop-again t c = (search needs, each-next _ _ _ _ _ (c .before .before .before .before .before .before .before .before .before .before .loop .inv .1) (omega arith) (c .before .before .before .before .before .before .before .before .leaf-of .ensures) (c .before .before .before .before .before .before .target .ensures .0 .gives) (c .before .before .if1 .left) (c .deeper .ensures))
-
-apply-all-same-length-2 : (t : ℕ) → apply-all-lts.Need-same-length-2 (apply-all-claims t) (apply-all-at t) apply-all.Post apply-all-Inv-loop apply-all-μ-loop
-apply-all-same-length-2 t c = search needs
-
-apply-all-returns-2 : (t : ℕ) → apply-all-lts.Need-returns-2 (apply-all-claims t) (apply-all-at t) apply-all.Post apply-all-Inv-loop apply-all-μ-loop
-apply-all-returns-2 t c = record { gives = search each-end; low = search needs }
 
 bind-eval-requires : (t : ℕ) → bind-lts.Need-eval-requires (bind-claims t) (bind-at t) bind.Post
 bind-eval-requires t c κs = search needs
@@ -641,54 +569,71 @@ live-returns-2 : (t : ℕ) → live-lts.Need-returns-2 (live-claims t) (live-at 
 unfolding liveOf
 live-returns-2 t c = record { gives = search steps depth 12; low = search needs }
 
-target-apply-requires : (t : ℕ) → target-lts.Need-apply-requires (target-claims t) (target-at t) target.Post
-target-apply-requires t c κs = search needs
+abbrev targets-Inv-loop : targets-lts.InvT-loop
+targets-Inv-loop table₀ rule d n arg x count before leaves list₀ have₀ used₀ c₀ i₀ table list have used c i = ((((length table ≡ length table₀) × (have ≤ i)) × (length list ≡ 64)) × (used ≤ d)) × Leads (each (targetOf (evalOf rule before d) rule arg x) [] (from noLeaf leaves 0 n)) table₀ c₀ used (each (targetOf (evalOf rule before d) rule arg x) (from noBranch list 0 have) (from noLeaf leaves i (n - i))) table c
 
-target-branch-requires : (t : ℕ) → target-lts.Need-branch-requires (target-claims t) (target-at t) target.Post
-target-branch-requires t c κs = search needs
+abbrev targets-μ-loop : targets-lts.MeasureT-loop
+targets-μ-loop table₀ rule d n arg x count before leaves list₀ have₀ used₀ c₀ i₀ table list have used c i = n - i
 
-target-mul-more : (t : ℕ) → target-lts.Need-mul-more (target-claims t) (target-at t) target.Post
-target-mul-more t c = search needs
+targets-loop-holds : (t : ℕ) → targets-lts.Need-loop-holds (targets-claims t) (targets-at t) targets.Post targets-Inv-loop targets-μ-loop
+unfolding from
+targets-loop-holds t c = (search needs, rw sub-zero (leads-start _ _ _))
 
-target-array-set-from-more : (t : ℕ) → target-lts.Need-array-set-from-more (target-claims t) (target-at t) target.Post
-target-array-set-from-more t c = search needs
+targets-mul-l : (t : ℕ) → targets-lts.Need-mul-l (targets-claims t) (targets-at t) targets.Post targets-Inv-loop targets-μ-loop
+targets-mul-l t c = search needs
 
-target-add-t19 : (t : ℕ) → target-lts.Need-add-t19 (target-claims t) (target-at t) target.Post
-target-add-t19 t c = search needs
+targets-array-copy-out-l : (t : ℕ) → targets-lts.Need-array-copy-out-l (targets-claims t) (targets-at t) targets.Post targets-Inv-loop targets-μ-loop
+targets-array-copy-out-l t c = search needs
 
-target-same-length : (t : ℕ) → target-lts.Need-same-length (target-claims t) (target-at t) target.Post
-target-same-length t c = search needs
+targets-add-i : (t : ℕ) → targets-lts.Need-add-i (targets-claims t) (targets-at t) targets.Post targets-Inv-loop targets-μ-loop
+targets-add-i t c = search needs
 
-target-returns : (t : ℕ) → target-lts.Need-returns (target-claims t) (target-at t) target.Post
-unfolding targetOf
-target-returns t c = rw (c .branch .ensures) (record { gives = if-eq _ _ _ _ (c .before .before .before .before .before .before .if1 .taken) (then-map _ (c .before .before .before .before .apply .ensures .gives) (branch-push _ _ _ (omega arith) (c .before .before .before .before .before .before .before .before .before .before .before .good .1 .1 .1 .1 .1 .1 .0 .1 .0 .1))); low = search needs }, search needs)
+targets-loop-less : (t : ℕ) → targets-lts.Need-loop-less (targets-claims t) (targets-at t) targets.Post targets-Inv-loop targets-μ-loop
+targets-loop-less t c = search needs
 
-target-returns-2 : (t : ℕ) → target-lts.Need-returns-2 (target-claims t) (target-at t) target.Post
-unfolding targetOf
-target-returns-2 t c = (record { gives = search runs depth 12; low = search needs }, search needs)
+targets-loop-again : (t : ℕ) → targets-lts.Need-loop-again (targets-claims t) (targets-at t) targets.Post targets-Inv-loop targets-μ-loop
+targets-loop-again t c = (search needs, each-next _ _ _ _ _ (c .before .before .before .before .before .loop .inv .1) (c .before .before .before .before .loop-test .taken) refl (target-passed _ _ _ _ _ _ (c .if1 .taken)) refl (omega arith))
 
-targets-apply-all-requires : (t : ℕ) → targets-lts.Need-apply-all-requires (targets-claims t) (targets-at t) targets.Post
-targets-apply-all-requires t c κs = search needs
+targets-apply-requires : (t : ℕ) → targets-lts.Need-apply-requires (targets-claims t) (targets-at t) targets.Post targets-Inv-loop targets-μ-loop
+targets-apply-requires t c κs = search needs
 
-targets-stop-requires : (t : ℕ) → targets-lts.Need-stop-requires (targets-claims t) (targets-at t) targets.Post
-targets-stop-requires t c κs = search needs
-
-targets-same-length : (t : ℕ) → targets-lts.Need-same-length (targets-claims t) (targets-at t) targets.Post
+targets-same-length : (t : ℕ) → targets-lts.Need-same-length (targets-claims t) (targets-at t) targets.Post targets-Inv-loop targets-μ-loop
 targets-same-length t c = search needs
 
-targets-returns : (t : ℕ) → targets-lts.Need-returns (targets-claims t) (targets-at t) targets.Post
+targets-returns : (t : ℕ) → targets-lts.Need-returns (targets-claims t) (targets-at t) targets.Post targets-Inv-loop targets-μ-loop
 unfolding targetsOf
-targets-returns t c = rw (c .stop .ensures) (record { gives = search runs depth 12; low = search needs })
+targets-returns t c = record { gives = run-stop _ (each-stop _ _ _ _ _ (c .before .before .before .before .before .before .before .before .before .before .before .loop .inv .1) (c .before .before .before .before .before .before .before .before .before .before .loop-test .taken) refl (target-run _ _ _ _ _ _ (c .before .before .before .before .before .before .if1 .left) (c .before .before .before .before .apply .ensures .gives) refl) (c .if2 .taken) {a = []} {v = 0}) (c .if2 .taken); low = search needs }
 
-targets-merge-requires : (t : ℕ) → targets-lts.Need-merge-requires (targets-claims t) (targets-at t) targets.Post
+targets-branch-requires : (t : ℕ) → targets-lts.Need-branch-requires (targets-claims t) (targets-at t) targets.Post targets-Inv-loop targets-μ-loop
+targets-branch-requires t c κs = search needs
+
+targets-mul-list : (t : ℕ) → targets-lts.Need-mul-list (targets-claims t) (targets-at t) targets.Post targets-Inv-loop targets-μ-loop
+targets-mul-list t c = omega (arith, c .before .before .before .before .before .before .before .before .before .before .before .before .before .loop .inv .0 .0 .0 .1, c .before .before .before .before .before .before .before .before .before .before .before .before .loop-test .taken, c .before .before .before .before .before .before .before .before .before .before .before .before .before .before .before .before .pre .1)
+
+targets-array-set-from-list : (t : ℕ) → targets-lts.Need-array-set-from-list (targets-claims t) (targets-at t) targets.Post targets-Inv-loop targets-μ-loop
+targets-array-set-from-list t c = omega (arith, c .before .before .before .before .before .before .before .before .before .before .before .before .before .loop .inv .0 .0 .0 .1, c .before .before .before .before .before .before .before .before .before .before .before .before .loop-test .taken, c .before .before .before .before .before .before .before .before .before .before .before .before .before .before .before .before .pre .1)
+
+targets-add-have : (t : ℕ) → targets-lts.Need-add-have (targets-claims t) (targets-at t) targets.Post targets-Inv-loop targets-μ-loop
+targets-add-have t c = omega (arith, c .before .before .before .before .before .before .before .before .before .before .before .before .before .loop .inv .0 .0 .0 .1, c .before .before .before .before .before .before .before .before .before .before .before .before .loop-test .taken, c .before .before .before .before .before .before .before .before .before .before .before .before .before .before .before .before .pre .1)
+
+targets-deeper-requires : (t : ℕ) → targets-lts.Need-deeper-requires (targets-claims t) (targets-at t) targets.Post targets-Inv-loop targets-μ-loop
+targets-deeper-requires t c κs = search needs
+
+targets-loop-less-2 : (t : ℕ) → targets-lts.Need-loop-less-2 (targets-claims t) (targets-at t) targets.Post targets-Inv-loop targets-μ-loop
+targets-loop-less-2 t c = search needs
+
+targets-loop-again-2 : (t : ℕ) → targets-lts.Need-loop-again-2 (targets-claims t) (targets-at t) targets.Post targets-Inv-loop targets-μ-loop
+targets-loop-again-2 t c = ((((c .before .before .before .before .before .before .before .apply .ensures .gives .kept .long ∙ c .before .before .before .before .before .before .before .before .before .before .before .before .before .before .loop .inv .0 .0 .0 .0, omega (arith, c .before .before .before .before .before .before .before .before .before .before .before .before .before .before .loop .inv .0 .0 .0 .1)), length-set (c .before .before .before .before .before .before .before .before .before .before .before .before .before .before .loop .list) (c .before .before .before .before .before .before .before .before .before .before .before .before .before .before .loop .have) (c .before .branch .result) ∙ c .before .before .before .before .before .before .before .before .before .before .before .before .before .before .loop .inv .0 .0 .1), omega (arith, c .deeper .ensures, c .before .before .before .before .before .before .before .apply .ensures .low, c .before .before .before .before .before .before .before .before .before .before .before .before .before .before .loop .inv .0 .1)), each-next _ _ _ _ _ (c .before .before .before .before .before .before .before .before .before .before .before .before .before .before .loop .inv .1) (c .before .before .before .before .before .before .before .before .before .before .before .before .before .loop-test .taken) refl (target-run _ _ _ _ _ _ (c .before .before .before .before .before .before .before .before .before .if1 .left) (c .before .before .before .before .before .before .before .apply .ensures .gives) (rw (c .before .branch .ensures) (branch-push _ _ _ (omega (arith, c .before .before .before .before .before .before .before .before .before .before .before .before .before .before .loop .inv .0 .0 .0 .1, c .before .before .before .before .before .before .before .before .before .before .before .before .before .loop-test .taken, c .before .before .before .before .before .before .before .before .before .before .before .before .before .before .before .before .before .pre .1)) (c .before .before .before .before .before .before .before .before .before .before .before .before .before .before .loop .inv .0 .0 .1)))) (c .before .before .before .if2 .left) (c .deeper .ensures))
+
+targets-merge-requires : (t : ℕ) → targets-lts.Need-merge-requires (targets-claims t) (targets-at t) targets.Post targets-Inv-loop targets-μ-loop
 targets-merge-requires t c κs = search needs
 
-targets-same-length-2 : (t : ℕ) → targets-lts.Need-same-length-2 (targets-claims t) (targets-at t) targets.Post
+targets-same-length-2 : (t : ℕ) → targets-lts.Need-same-length-2 (targets-claims t) (targets-at t) targets.Post targets-Inv-loop targets-μ-loop
 targets-same-length-2 t c = search needs
 
-targets-returns-2 : (t : ℕ) → targets-lts.Need-returns-2 (targets-claims t) (targets-at t) targets.Post
+targets-returns-2 : (t : ℕ) → targets-lts.Need-returns-2 (targets-claims t) (targets-at t) targets.Post targets-Inv-loop targets-μ-loop
 unfolding targetsOf
-targets-returns-2 t c = record { gives = search runs depth 12; low = search needs }
+targets-returns-2 t c = record { gives = run-end _ (each-end _ _ _ _ _ (c .before .before .before .before .before .before .loop .inv .1) (c .before .before .before .before .before .loop-test .left)) refl (c .before .before .before .merge .ensures); low = search needs }
 
 under-make-requires : (t : ℕ) → under-lts.Need-make-requires (under-claims t) (under-at t) under.Post
 under-make-requires t c κs = search needs
@@ -713,12 +658,11 @@ under-returns-2 : (t : ℕ) → under-lts.Need-returns-2 (under-claims t) (under
 unfolding underOf
 under-returns-2 t c = record { gives = search runs depth 12; low = search needs }
 
-pub +apply+apply-all+bind+both+branches+call+decide+eval+expression+live+target+targets+under-spec :
+pub +apply+bind+both+branches+call+decide+eval+expression+live+targets+under-spec :
     {M : Type 1} → statement M
-+apply+apply-all+bind+both+branches+call+decide+eval+expression+live+target+targets+under-spec =
++apply+bind+both+branches+call+decide+eval+expression+live+targets+under-spec =
     close
     μ-apply
-    μ-apply-all
     μ-bind
     μ-both
     μ-branches
@@ -727,7 +671,6 @@ pub +apply+apply-all+bind+both+branches+call+decide+eval+expression+live+target+
     μ-eval
     μ-expression
     μ-live
-    μ-target
     μ-targets
     μ-under
     (λ t. apply-lts.spec (apply-claims t)
@@ -741,22 +684,6 @@ pub +apply+apply-all+bind+both+branches+call+decide+eval+expression+live+target+
     (apply-under-requires t)
     (apply-same-length-2 t)
     (apply-returns-2 t))
-    (λ t. apply-all-lts.spec (apply-all-claims t)
-    (apply-all-at t)
-    apply-all.Post
-    apply-all-Inv-loop
-    apply-all-μ-loop
-    (apply-all-loop-holds t)
-    (apply-all-leaf-of-requires t)
-    (apply-all-target-requires t)
-    (apply-all-same-length t)
-    (apply-all-returns t)
-    (apply-all-deeper-requires t)
-    (apply-all-add-i t)
-    (apply-all-loop-less t)
-    (apply-all-loop-again t)
-    (apply-all-same-length-2 t)
-    (apply-all-returns-2 t))
     (λ t. bind-lts.spec (bind-claims t)
     (bind-at t)
     bind.Post
@@ -882,24 +809,27 @@ pub +apply+apply-all+bind+both+branches+call+decide+eval+expression+live+target+
     (live-expression-requires t)
     (live-same-length-2 t)
     (live-returns-2 t))
-    (λ t. target-lts.spec (target-claims t)
-    (target-at t)
-    target.Post
-    (target-apply-requires t)
-    (target-branch-requires t)
-    (target-mul-more t)
-    (target-array-set-from-more t)
-    (target-add-t19 t)
-    (target-same-length t)
-    (target-returns t)
-    (target-returns-2 t))
     (λ t. targets-lts.spec (targets-claims t)
     (targets-at t)
     targets.Post
-    (targets-apply-all-requires t)
-    (targets-stop-requires t)
+    targets-Inv-loop
+    targets-μ-loop
+    (targets-loop-holds t)
+    (targets-mul-l t)
+    (targets-array-copy-out-l t)
+    (targets-add-i t)
+    (targets-loop-less t)
+    (targets-loop-again t)
+    (targets-apply-requires t)
     (targets-same-length t)
     (targets-returns t)
+    (targets-branch-requires t)
+    (targets-mul-list t)
+    (targets-array-set-from-list t)
+    (targets-add-have t)
+    (targets-deeper-requires t)
+    (targets-loop-less-2 t)
+    (targets-loop-again-2 t)
     (targets-merge-requires t)
     (targets-same-length-2 t)
     (targets-returns-2 t))
