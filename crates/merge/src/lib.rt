@@ -1,5 +1,5 @@
-// Merging guarded results over a state: first every S, then every T, then the values from the right by choice.
-// The branches are the first n of a list by value. No function has a `requires`.
+// Merging guarded results over a state: a pass for every S, one for every T, and one for the values, from the right by
+// choice. A pass walks a lent list of branches and carries on, by value, what it has. No public function has a `requires`.
 use semantics::Branch;
 use semantics::Found;
 use semantics::Result;
@@ -7,11 +7,12 @@ use semantics::State;
 use semantics::numbers;
 use states::Standing;
 ghost use mathlib.Core.Path.{_≡_};
-ghost use lib.ListN.{getD};
-ghost use Rattle.semantics.specs.Steps.{each};
-ghost use Rattle.semantics.specs.Merge.{branchOf, assumedStep, assertedStep, mergeStatesOf, valueStepOf, mergeValuesOf, finishOf, mergeOf};
+ghost use Prim.Native.Nat.{_≤_, _<_};
+ghost use lib.ListN.{take, replicate};
+ghost use Rattle.semantics.specs.Merge.{branchOf, valueStepOf, finishOf, mergeOf};
 ghost use Rattle.terms.specs.Gives.{Gives, from};
 ghost use Rattle.merge.specs.Branches.{noBranch};
+ghost use Rattle.merge.specs.Passes.{stateStep, passStep, placeOf, passOf, mergedOf, Carries};
 
 // What stands in a list past its branches.
 pub const NO_BRANCH: Branch = Branch {
@@ -23,6 +24,22 @@ pub const NO_BRANCH: Branch = Branch {
     value: 0,
     halted: false,
 };
+
+// The passes over the branches.
+const ASSUMED_PASS: u8 = 0;
+
+const ASSERTED_PASS: u8 = 1;
+
+const VALUE_PASS: u8 = 2;
+
+// What a pass carries on: the state, and the value of the branches met, if one gave a value, with a table that then has
+// `count` terms; or a refusal, where it is not 0.
+pub struct Carried {
+    pub refusal: u8,
+    pub count: u16,
+    pub state: State,
+    pub found: Found,
+}
 
 // A value, if a branch gave one, with a table that then has `count` terms; or a refusal, where it is not 0.
 pub struct Valued {
@@ -42,33 +59,21 @@ pub struct Merged {
 pub fn merge(table: &mut [u8], count: u16, x: State, branches: [Branch; 64], n: usize) -> Merged
     ensures { λ r. ⌜ Gives (mergeOf x (from noBranch branches 0 n)) (now (table .entry)) count (r .refusal) (r .count) 0 (r .result) (now (table .exit)) ⌝ }
 {
-    let s = merge_states(table, count, x, branches, n);
-    if s.refusal != 0 {
+    let m = merge_passes(table, count, x, branches, n);
+    let y = m.state;
+    if m.refusal != 0 {
         return Merged {
-            refusal: s.refusal,
-            count: s.count,
+            refusal: m.refusal,
+            count: m.count,
             result: Result {
-                state: x,
+                state: y,
                 value: 0,
                 halted: true,
             },
         };
     }
-    let y = s.state;
-    let v = merge_values(table, s.count, branches, n);
-    if v.refusal != 0 {
-        return Merged {
-            refusal: v.refusal,
-            count: v.count,
-            result: Result {
-                state: x,
-                value: 0,
-                halted: true,
-            },
-        };
-    }
-    let f = v.found;
-    finish(table, v.count, y, f)
+    let v = m.found;
+    finish(table, m.count, y, v)
 }
 
 // A result under its guard.
@@ -84,99 +89,127 @@ pub fn branch(guard: u16, x: Result) -> Branch
     }
 }
 
-// Branch i of a list; a blank one where there is none.
-pub fn branch_of(branches: [Branch; 64], i: usize) -> Branch
-    ensures { λ r. ⌜ r ≡ getD branches i noBranch ⌝ }
-{
-    if i < numbers::LEAF_LIMIT {
-        branches[i]
-    } else {
-        NO_BRANCH
+impl Carried {
+    // One branch of a pass. Where a step was refused, nothing more is made.
+    pub fn merging(self, pass: u8, b: Branch, table: &mut [u8]) -> Carried
+        ensures { λ r. ⌜ Carries self (now (table .entry)) (λ x. passStep pass x b) r (now (table .exit)) ⌝ }
+    {
+        let x = self.state;
+        let v = self.found;
+        if self.refusal != 0 {
+            return self;
+        }
+        if pass == VALUE_PASS {
+            let w = merge_value(table, self.count, b, v);
+            let f = w.found;
+            return Carried {
+                refusal: w.refusal,
+                count: w.count,
+                state: x,
+                found: f,
+            };
+        }
+        let y = merge_state(table, self.count, x, pass, b);
+        let s = y.state;
+        Carried {
+            refusal: y.refusal,
+            count: y.count,
+            state: s,
+            found: v,
+        }
     }
 }
 
-// S with each branch's, then T with each branch's.
-fn merge_states(
-    table: &mut [u8],
-    count: u16,
-    x: State,
-    branches: [Branch; 64],
-    n: usize,
-) -> Standing
-    ensures { λ r. ⌜ Gives (mergeStatesOf x (from noBranch branches 0 n)) (now (table .entry)) count (r .refusal) (r .count) 0 (r .state) (now (table .exit)) ⌝ }
+// Which of n branches turn i of a pass meets: the values go from the right.
+fn place(pass: u8, i: usize, n: usize) -> usize
+    requires { ⌜ i < n ⌝ }
+    ensures { λ r. ⌜ (r ≡ placeOf pass i n) × (r < n) ⌝ }
 {
-    let s = merge_assumed(table, count, x, branches, n);
-    if s.refusal != 0 {
-        return s;
+    if pass != VALUE_PASS {
+        return i;
     }
-    let y = s.state;
-    merge_asserted(table, s.count, y, branches, n)
+    n - 1 - i
 }
 
-fn merge_assumed(
-    table: &mut [u8],
-    count: u16,
-    x: State,
-    branches: [Branch; 64],
-    n: usize,
-) -> Standing
-    ensures { λ r. ⌜ Gives (each assumedStep x (from noBranch branches 0 n)) (now (table .entry)) count (r .refusal) (r .count) 0 (r .state) (now (table .exit)) ⌝ }
+// One pass over a lent list of branches.
+pub fn merge_lent(results: &[Branch], pass: u8, m: Carried, table: &mut [u8]) -> Carried
+    ensures { λ r. ⌜ Carries m (now (table .entry)) (passOf pass (now (results .entry))) r (now (table .exit)) ⌝ }
 {
-    let mut y = Standing {
+    let mut a = m;
+    let mut i: usize = 0;
+    while i < results.len() {
+        let j = place(pass, i, results.len());
+        a = a.merging(pass, results[j], table);
+        i = i + 1;
+    }
+    a
+}
+
+// One pass over the first n branches of an array, which it lends.
+fn merge_first(branches: [Branch; 64], n: usize, pass: u8, m: Carried, table: &mut [u8]) -> Carried
+    requires { ⌜ n ≤ 64 ⌝ }
+    ensures { λ r. ⌜ Carries m (now (table .entry)) (passOf pass (take n branches)) r (now (table .exit)) ⌝ }
+{
+    merge_lent(&branches[..n], pass, m, table)
+}
+
+// One pass over n blank branches.
+fn merge_blank(n: usize, pass: u8, m: Carried, table: &mut [u8]) -> Carried
+    ensures { λ r. ⌜ Carries m (now (table .entry)) (passOf pass (replicate n noBranch)) r (now (table .exit)) ⌝ }
+{
+    let mut a = m;
+    let mut i: usize = 0;
+    while i < n {
+        a = a.merging(pass, NO_BRANCH, table);
+        i += 1;
+    }
+    a
+}
+
+// One pass over the first n branches, of which those past the array are blank.
+fn merge_pass(branches: [Branch; 64], n: usize, pass: u8, m: Carried, table: &mut [u8]) -> Carried
+    ensures { λ r. ⌜ Carries m (now (table .entry)) (passOf pass (from noBranch branches 0 n)) r (now (table .exit)) ⌝ }
+{
+    if n <= numbers::LEAF_LIMIT {
+        return merge_first(branches, n, pass, m, table);
+    }
+    if pass == VALUE_PASS {
+        let later = merge_blank(n - numbers::LEAF_LIMIT, pass, m, table);
+        return merge_first(branches, numbers::LEAF_LIMIT, pass, later, table);
+    }
+    let first = merge_first(branches, numbers::LEAF_LIMIT, pass, m, table);
+    merge_blank(n - numbers::LEAF_LIMIT, pass, first, table)
+}
+
+// The three passes, one after another.
+fn merge_passes(table: &mut [u8], count: u16, x: State, branches: [Branch; 64], n: usize) -> Carried
+    ensures { λ r. ⌜ Gives (mergedOf x (from noBranch branches 0 n)) (now (table .entry)) count (r .refusal) (r .count) 0 (r .state, r .found) (now (table .exit)) ⌝ }
+{
+    let start = Carried {
+        refusal: 0,
+        count: count,
+        state: x,
+        found: Found { is: false, at: 0 },
+    };
+    let s = merge_pass(branches, n, ASSUMED_PASS, start, table);
+    let t = merge_pass(branches, n, ASSERTED_PASS, s, table);
+    merge_pass(branches, n, VALUE_PASS, t, table)
+}
+
+// A branch's S, or its T.
+fn merge_state(table: &mut [u8], count: u16, x: State, pass: u8, b: Branch) -> Standing
+    ensures { λ r. ⌜ Gives (stateStep pass x b) (now (table .entry)) count (r .refusal) (r .count) 0 (r .state) (now (table .exit)) ⌝ }
+{
+    let y = Standing {
         refusal: 0,
         count: count,
         state: x,
     };
-    let mut i: usize = 0;
-    while i < n {
-        let b = branch_of(branches, i);
-        let s = b.state;
-        let z = y.merge_assumed(table, b.guard, s.assumed);
-        if z.refusal != 0 {
-            return z;
-        }
-        y = z;
-        i += 1;
+    let s = b.state;
+    if pass == ASSUMED_PASS {
+        return y.merge_assumed(table, b.guard, s.assumed);
     }
-    let s = y.state;
-    Standing {
-        refusal: 0,
-        count: y.count,
-        state: s,
-    }
-}
-
-fn merge_asserted(
-    table: &mut [u8],
-    count: u16,
-    x: State,
-    branches: [Branch; 64],
-    n: usize,
-) -> Standing
-    ensures { λ r. ⌜ Gives (each assertedStep x (from noBranch branches 0 n)) (now (table .entry)) count (r .refusal) (r .count) 0 (r .state) (now (table .exit)) ⌝ }
-{
-    let mut y = Standing {
-        refusal: 0,
-        count: count,
-        state: x,
-    };
-    let mut i: usize = 0;
-    while i < n {
-        let b = branch_of(branches, i);
-        let s = b.state;
-        let z = y.merge_asserted(table, b.guard, s.asserted);
-        if z.refusal != 0 {
-            return z;
-        }
-        y = z;
-        i += 1;
-    }
-    let s = y.state;
-    Standing {
-        refusal: 0,
-        count: y.count,
-        state: s,
-    }
+    y.merge_asserted(table, b.guard, s.asserted)
 }
 
 // A branch before the later ones' value: a choice under its guard. A halted branch gives none.
@@ -208,29 +241,6 @@ fn merge_value(table: &mut [u8], count: u16, b: Branch, later: Found) -> Valued
             is: true,
             at: b.value,
         },
-    }
-}
-
-// The values, folded from the right.
-fn merge_values(table: &mut [u8], count: u16, branches: [Branch; 64], n: usize) -> Valued
-    ensures { λ r. ⌜ Gives (mergeValuesOf (from noBranch branches 0 n)) (now (table .entry)) count (r .refusal) (r .count) 0 (r .found) (now (table .exit)) ⌝ }
-{
-    let mut v = Found { is: false, at: 0 };
-    let mut c = count;
-    let mut i = n;
-    while i > 0 {
-        i -= 1;
-        let w = merge_value(table, c, branch_of(branches, i), v);
-        if w.refusal != 0 {
-            return w;
-        }
-        v = w.found;
-        c = w.count;
-    }
-    Valued {
-        refusal: 0,
-        count: c,
-        found: v,
     }
 }
 

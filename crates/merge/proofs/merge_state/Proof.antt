@@ -1,9 +1,9 @@
--- `merge::merge_states` meets its contract: it follows the text of its definition. Assumes nothing.
+-- `merge::merge_state` meets its contract: it follows the text of its definition. Assumes nothing.
 use borrow.Author.Needs.{needs}
-use Rattle.semantics.specs.Merge.{mergeStatesOf}
 use Rattle.terms.proofs.Steps.{steps}
-use Rattle.merge.proofs.merge_states.Statement.{statement}
-use Rattle.merge.proofs.merge_states.Tie as tie
+use Rattle.merge.specs.Passes.{stateStep}
+use Rattle.merge.proofs.merge_state.Statement.{statement}
+use Rattle.merge.proofs.merge_state.Tie as tie
 
 merge-assumed-requires : tie.Need-merge-assumed-requires
 merge-assumed-requires c κs = search needs
@@ -12,7 +12,7 @@ same-length : tie.Need-same-length
 same-length c = search needs
 
 returns : tie.Need-returns
-unfolding mergeStatesOf
+unfolding stateStep
 returns c = search steps depth 12
 
 merge-asserted-requires : tie.Need-merge-asserted-requires
@@ -22,9 +22,9 @@ same-length-2 : tie.Need-same-length-2
 same-length-2 c = search needs
 
 returns-2 : tie.Need-returns-2
-unfolding mergeStatesOf
+unfolding stateStep
 returns-2 c = search steps depth 12
 
-pub merge-states-spec : {M : Type 1} → statement M
-merge-states-spec =
+pub merge-state-spec : {M : Type 1} → statement M
+merge-state-spec =
     tie.close (tie.spec merge-assumed-requires same-length returns merge-asserted-requires same-length-2 returns-2)
