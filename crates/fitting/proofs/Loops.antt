@@ -1,8 +1,8 @@
 -- Tests over the terms of a table, from the newest down, and over a slice's tail: each way through a loop, given that what is left of the test
 -- decides it (`z` is what the whole test gives). Assumes nothing.
-use mathlib.Core.Path.{_≡_, refl, sym, ap, _∙_}
-use mathlib.Core.Bool.{Bool, true, false, not, _&&_, and-false}
-use mathlib.Core.List.{List, [], _∷_}
+use mathlib.Core.Path.{_≡_}
+use mathlib.Core.Bool.{Bool, true, false, _&&_}
+use mathlib.Core.List.{List}
 use Prim.Native.Nat.{ℕ, zero, suc, _+_, _-_, _<_, _≤_}
 use native.Mathlib.Numerals.{add-one}
 use native.Mathlib.Omega.{arith}
@@ -12,13 +12,9 @@ use lib.Dec.{eqb}
 use borrow.Author.Tests.{eq-eqb, ne-eqb}
 use Rattle.notation.specs.Notation.{pick, if_then_else_}
 use Rattle.semantics.specs.declared.Term.{Term}
-use Rattle.semantics.specs.declared.Found.{Found}
 use Rattle.semantics.specs.Rules.{every}
-use Rattle.semantics.specs.Terms.{termAt, termsIn, sameOf, findOf, laidOut, wellFormed}
+use Rattle.semantics.specs.Terms.{termAt, termsIn, sameOf}
 use Rattle.semantics.specs.Fits.{sameTerms, noFree, isZero}
-use Rattle.terms.specs.Search.{findAbove}
-use Rattle.typing.proofs.Formed.{find-same}
-use Rattle.fitting.specs.Formed.{formedOf}
 
 module _ (s y : List ℕ) {z : Bool} where
   pub same-end : (i : ℕ) → sameTerms (termsIn s i) (termsIn y i) ≡ z → i ≤ 0 → true ≡ z
@@ -38,29 +34,6 @@ module _ (s y : List ℕ) {z : Bool} where
 
     pub same-miss : b ≡ false → false ≡ z
     same-miss g = rw g at (turn i inv h et eu eb)
-
-module _ (s : List ℕ) (n : ℕ) {z : Bool} where
-  pub formed-end : (i : ℕ) → formedOf n (termsIn s i) ≡ z → i ≤ 0 → true ≡ z
-  unfolding formedOf termsIn
-  formed-end zero inv h = inv
-  formed-end (suc i) inv h = absurd (omega arith)
-
-  again : (i : ℕ) → formedOf n (termsIn s i) ≡ z → 0 < i → {t : Term} → t ≡ termAt s (i - 1) → {b : Bool} → b ≡ laidOut n (termsIn s (i - 1)) t
-      → {f : Found} → f ≡ findAbove (termsIn s (i - 1)) t → (b && (not (f .is) && formedOf n (termsIn s (i - 1)))) ≡ z
-  unfolding formedOf termsIn
-  again zero inv h et eb ef = absurd (omega arith)
-  again (suc i) inv h et eb ef = let e : suc i - 1 ≡ i = omega arith in rw (eb, ef, et, e) inv
-
-  module _ (i : ℕ) (inv : formedOf n (termsIn s i) ≡ z) (h : 0 < i) {t : Term} (et : t ≡ termAt s (i - 1)) {b : Bool} (eb : b ≡ laidOut n (termsIn s (i - 1)) t) where
-    pub formed-miss : b ≡ false → false ≡ z
-    formed-miss g = rw g at (again i inv h et eb refl)
-
-    module _ (g : b ≡ true) {f : Found} (ef : f ≡ findAbove (termsIn s (i - 1)) t) where
-      pub formed-twice : f .is ≡ true → false ≡ z
-      formed-twice k = rw (g, k) at (again i inv h et eb ef)
-
-      pub formed-next : f .is ≡ false → formedOf n (termsIn s (i - 1)) ≡ z
-      formed-next k = rw (g, k) at (again i inv h et eb ef)
 
 module _ (s : List ℕ) (n : ℕ) {z : Bool} where
   pub free-end : (i : ℕ) → every noFree (take (i - n) (termsIn s i)) ≡ z → i ≤ n → true ≡ z
@@ -96,13 +69,3 @@ module _ (s : List ℕ) {z : Bool} (i : ℕ) (inv : every isZero (drop i s) ≡ 
 
     pub zero-miss : (getD s i 0 ≡ 0 → ⊥) → false ≡ z
     zero-miss e = rw (ne-eqb _ _ e) at left
-
--- Searching only above the largest operand tells the same tables apart.
-pub formed-same : (n : ℕ) (ts : List Term) → formedOf n ts ≡ wellFormed n ts
-unfolding formedOf wellFormed
-formed-same n [] = refl
-formed-same n (t ∷ ts) = rw (formed-same n ts) (go (wellFormed n ts) refl)
-  where
-    go : (b : Bool) → wellFormed n ts ≡ b → (laidOut n ts t && (not (findAbove ts t .is) && b)) ≡ (laidOut n ts t && (not (findOf ts t .is) && b))
-    go true e = rw (find-same n t ts e)
-    go false e = rw (and-false (not (findAbove ts t .is)), and-false (not (findOf ts t .is)))

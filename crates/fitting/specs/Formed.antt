@@ -1,7 +1,7 @@
--- Test 3 as the code goes about it: repeats are searched for down to the largest operand. Assumes nothing.
-use Prim.Native.Nat.{ℕ, _*_, _-_}
-use mathlib.Core.Bool.{Bool, true, false, not, _&&_, _||_}
-use mathlib.Core.List.{List, [], _∷_}
+-- Test 3 as the code goes about it: a term is searched for among those below it only where they have its marks. Assumes nothing.
+use Prim.Native.Nat.{ℕ, _+_, _*_, _-_, _%_}
+use mathlib.Core.Bool.{Bool, _&&_, _||_}
+use mathlib.Core.List.{List}
 use lib.Dec.{eqb, ltb, leb}
 use lib.ListN.{length, take, drop}
 use Rattle.notation.specs.Notation.{if_equals_then_else_}
@@ -11,9 +11,8 @@ use Rattle.semantics.specs.declared.Session.{Session}
 use Rattle.semantics.specs.Numbers.{recordLimit, noBinding, ruleLimit}
 use Rattle.semantics.specs.Records.{recordsIn}
 use Rattle.semantics.specs.Rules.{every}
-use Rattle.semantics.specs.Terms.{namesTruth, namesBinding, namesValue, laidOut, termsIn, wellFormed}
+use Rattle.semantics.specs.Terms.{namesTruth, namesBinding, namesValue, termsIn, wellFormed}
 use Rattle.semantics.specs.Fits.{sameTerms, noFree, isZero}
-use Rattle.terms.specs.Search.{findAbove}
 
 -- ---- the layout, kind by kind
 abbrev pub onlyA : Term → Bool
@@ -36,10 +35,26 @@ bindingLaid ts t = namesValue ts (t .a) && (nextLaid ts (t .b) && eqb (t .c) 0)
 abbrev pub wordsLaid : List Term → ℕ → ℕ → ℕ → Bool
 wordsLaid ts op a b = namesValue ts a && (if operandsOf op equals 1 then eqb b 0 else namesValue ts b)
 
--- every term is laid out, and none is found again below it
-unfoldable pub formedOf : ℕ → List Term → Bool
-formedOf n [] = true
-formedOf n (t ∷ ts) = laidOut n ts t && (not (findAbove ts t .is) && formedOf n ts)
+-- ---- marks: numbers that equal terms share
+
+-- how many there are by a factor: a prime above every word
+abbrev pub markCount : ℕ
+markCount = 65537
+
+-- the factors of a term's two marks
+abbrev pub firstFactor : ℕ
+firstFactor = 17271
+
+abbrev pub secondFactor : ℕ
+secondFactor = 57142
+
+-- the product modulo the count of marks
+abbrev pub timesOf : ℕ → ℕ → ℕ
+timesOf x y = (x * y) % markCount
+
+-- the mark of a term by factor k
+unfoldable pub markOf : ℕ → Term → ℕ
+markOf k t = timesOf (t .a + timesOf k (t .b + timesOf k (t .c))) (t .op + 1 + timesOf k (t .kind))
 
 -- ---- test 3, cut where the code cuts it
 

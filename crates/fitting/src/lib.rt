@@ -1,5 +1,5 @@
-// Test 3: whether a session and a table fit. It goes once over the table, searching for repeats only above each
-// term's largest operand, and makes the opening's terms anew to compare them. No public function has a `requires`.
+// Test 3: whether a session and a table fit. It goes once over the table, searching for repeats only where a term's
+// mark is set already, and makes the opening's terms anew to compare them. No public function has a `requires`.
 use semantics::Input;
 use semantics::Session;
 use semantics::Term;
@@ -13,7 +13,8 @@ ghost use Rattle.semantics.specs.Rules.{every};
 ghost use Rattle.semantics.specs.Terms.{termsIn, namesTruth, namesChoice, namesBinding, namesValue, operandsLaidOut, laidOut, wellFormed};
 ghost use Rattle.semantics.specs.Opening.{inputTaken, opening};
 ghost use Rattle.semantics.specs.Fits.{sameTerms, noFree, isZero, fitsOf};
-ghost use Rattle.fitting.specs.Formed.{onlyA, choiceLaid, procedureLaid, nextLaid, bindingLaid, wordsLaid, formulasFit, recordsFit, openingFits};
+ghost use Rattle.terms.specs.Search.{findAbove};
+ghost use Rattle.fitting.specs.Formed.{onlyA, choiceLaid, procedureLaid, nextLaid, bindingLaid, wordsLaid, timesOf, markOf, formulasFit, recordsFit, openingFits};
 
 // Whether a number names a lower truth: one of the first n terms.
 pub fn names_truth(table: &[u8], n: u16, x: u16) -> bool
@@ -201,21 +202,64 @@ fn laid_out(table: &[u8], n: u16, accepted: u16, t: Term) -> bool
     }
 }
 
-// Whether every one of the first n terms is laid out and none is repeated.
+// How many marks there are by a factor: a prime above every word.
+const MARKS: usize = 65537;
+
+// The factor of a term's first mark. Both factors were chosen by trial: few terms of a table find both marks set.
+const FIRST: u32 = 17271;
+
+// The factor of a term's second mark.
+const SECOND: u32 = 57142;
+
+// The product modulo the count of marks.
+fn times(x: u32, y: u32) -> u32
+    ensures { λ r. ⌜ r ≡ timesOf x y ⌝ }
+{
+    ((x as usize * y as usize) % MARKS) as u32
+}
+
+// The mark of a term by a factor. No two word constants share a first mark (`words-apart`).
+fn mark_of(t: Term, factor: u32) -> usize
+    ensures { λ r. ⌜ r ≡ markOf factor t ⌝ }
+{
+    let y = t.b as u32 + times(factor, t.c as u32);
+    let x = t.a as u32 + times(factor, y);
+    let w = t.op as u32 + 1 + times(factor, t.kind as u32);
+    times(x, w) as usize
+}
+
+// Whether t is one of the first i terms. It is searched for only where each of its marks is one of theirs.
+fn repeated(table: &[u8], i: u16, t: Term, first: bool, second: bool) -> bool
+    ensures { λ r. ⌜ r ≡ (first && (second && findAbove (termsIn (now (table .entry)) i) t .is)) ⌝ }
+{
+    if first {
+        if second {
+            let f = terms::find(table, i, t);
+            return f.is;
+        }
+    }
+    false
+}
+
+// Whether every one of the first n terms is laid out and none is repeated. Equal terms have equal marks, so that a term
+// with a mark that is not set yet is a new one.
 fn well_formed(table: &[u8], n: u16, accepted: u16) -> bool
     ensures { λ r. ⌜ r ≡ wellFormed accepted (termsIn (now (table .entry)) n) ⌝ }
 {
-    let mut i = n;
-    while i > 0 {
-        i -= 1;
+    let mut first: [bool; MARKS] = [false; MARKS];
+    let mut second: [bool; MARKS] = [false; MARKS];
+    for i in 0..n {
         let t = records::term_at(table, i);
         if laid_out(table, i, accepted, t) {} else {
             return false;
         }
-        let f = terms::find(table, i, t);
-        if f.is {
+        let l = mark_of(t, FIRST);
+        let m = mark_of(t, SECOND);
+        if repeated(table, i, t, first[l], second[m]) {
             return false;
         }
+        first[l] = true;
+        second[m] = true;
     }
     true
 }

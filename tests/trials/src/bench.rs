@@ -1,34 +1,40 @@
-//! The time of test 3 on a full table and of the tests 4 to 7 on the longest rule, beside the second evaluator's.
+//! The time of test 3 on full tables and on an opening, and of the tests 4 to 7 on the longest rule, beside the second
+//! evaluator's.
 
 use crate::desk;
 use crate::rules::{guarded_update, long_rule};
 use crate::trials::{second_fits, second_rule_refusal};
 use second::dice::record;
-use second::{evaluate, open, Answer, Input, Session};
+use second::{evaluate, open, Answer, Input, Record, Session};
 use std::hint::black_box;
 use std::time::Instant;
 
 const TERMS: u16 = 8_192;
+
+/// An opening over a table of so many records.
+fn opening(inputs: &[Input; 16], records: u16) -> (Session, Vec<u8>) {
+    let mut table = vec![0; 8 * usize::from(records)];
+    let session = open(inputs, &mut table).expect("a good opening");
+    (session, table)
+}
 
 /// An opening with a free truth and a free word, over a table of 8,192 records.
 fn opened() -> (Session, Vec<u8>) {
     let mut inputs = [Input { kind: 0, value: 0 }; 16];
     inputs[0].kind = 2;
     inputs[1].kind = 3;
-    let mut table = vec![0; 8 * usize::from(TERMS)];
-    let session = open(&inputs, &mut table).expect("a good opening");
-    (session, table)
+    opening(&inputs, TERMS)
 }
 
-/// A full table of terms that a function gives by their numbers, as kind, op, a, b.
-fn filled(term: impl Fn(u16) -> (u8, u8, u16, u16)) -> (Session, Vec<u8>) {
+/// A full table of terms that a function gives by their numbers, as if two rules had been accepted.
+fn filled(term: impl Fn(u16) -> Record) -> (Session, Vec<u8>) {
     let (mut session, mut table) = opened();
     for n in session.count..TERMS {
-        let (kind, op, a, b) = term(n);
         let at = 8 * usize::from(n);
-        table[at..at + 8].copy_from_slice(&record(kind, op, a, b, 0).to_bytes());
+        table[at..at + 8].copy_from_slice(&term(n).to_bytes());
     }
     session.count = TERMS;
+    session.accepted = 2;
     (session, table)
 }
 
@@ -44,6 +50,36 @@ fn updated() -> (Session, Vec<u8>) {
     (session, table)
 }
 
+/// A chain of ors, each of the one before and the free truth.
+fn ors() -> (Session, Vec<u8>) {
+    let first = opened().0.count;
+    filled(|n| record(5, 34, if n == first { 2 } else { n - 1 }, 2, 0))
+}
+
+/// Words, and any two of them under each operator on two words.
+fn operators() -> (Session, Vec<u8>) {
+    const WORDS: u16 = 29;
+    const CODES: [u8; 10] = [1, 2, 3, 4, 5, 6, 7, 8, 11, 12];
+    let first = opened().0.count;
+    filled(|n| match (n - first).checked_sub(WORDS) {
+        None => record(2, 0, n, 0, 0),
+        Some(k) => {
+            let code = CODES[usize::from(k / WORDS / WORDS)];
+            record(5, code, first + k / WORDS % WORDS, first + k % WORDS, 0)
+        }
+    })
+}
+
+/// The procedures of all records of a rule, and of most of a second, in the environment of the opening.
+fn procedures() -> (Session, Vec<u8>) {
+    const RECORDS: u16 = 4_096;
+    let first = opened().0.count;
+    filled(|n| {
+        let k = n - first;
+        record(7, 0, k % RECORDS, first - 1, k / RECORDS)
+    })
+}
+
 /// The least of some times, in milliseconds.
 fn least(turns: u32, mut f: impl FnMut() -> u8) -> f64 {
     let mut best = f64::MAX;
@@ -57,31 +93,34 @@ fn least(turns: u32, mut f: impl FnMut() -> u8) -> f64 {
 
 fn report(what: &str, desk: f64, second: f64) {
     let ratio = desk / second;
-    println!("{what}: desk {desk:.3} ms, second {second:.3} ms, ratio {ratio:.2}");
+    println!("{what}: desk {desk:.4} ms, second {second:.4} ms, ratio {ratio:.2}");
+}
+
+fn time_fits(what: &str, (session, table): (Session, Vec<u8>), turns: u32) {
+    let form = desk::session_bytes(&session);
+    assert_eq!(desk::fits(&form, &table), 0);
+    assert_eq!(second_fits(&session, &table), 0);
+    let ours = least(turns, || desk::fits(black_box(&form), black_box(&table)));
+    let theirs = least(turns, || {
+        second_fits(black_box(&session), black_box(&table))
+    });
+    let (terms, records) = (session.count, table.len() / 8);
+    report(
+        &format!("fits, {terms} terms on {records} records, {what}"),
+        ours,
+        theirs,
+    );
 }
 
 pub fn run() {
-    let (first, _) = opened();
-    let tables = [
-        ("guarded updates", updated()),
-        (
-            "a chain of ors",
-            filled(|n| (5, 34, if n == first.count { 2 } else { n - 1 }, 2)),
-        ),
-        ("words alone", filled(|n| (2, 0, n, 0))),
-    ];
-    for (what, (session, table)) in tables {
-        let form = desk::session_bytes(&session);
-        assert_eq!(desk::fits(&form, &table), 0);
-        assert_eq!(second_fits(&session, &table), 0);
-        let ours = least(10, || desk::fits(black_box(&form), black_box(&table)));
-        let theirs = least(30, || second_fits(black_box(&session), black_box(&table)));
-        report(
-            &format!("fits, {} terms, {what}", session.count),
-            ours,
-            theirs,
-        );
-    }
+    time_fits("guarded updates", updated(), 30);
+    time_fits("a chain of ors", ors(), 30);
+    time_fits("words alone", filled(|n| record(2, 0, n, 0, 0)), 30);
+    time_fits("operators on few words", operators(), 30);
+    time_fits("procedures of one binding", procedures(), 30);
+    let free = [Input { kind: 2, value: 0 }; 16];
+    time_fits("an opening", opening(&free, 34), 3_000);
+    time_fits("an opening", opening(&free, TERMS), 3_000);
     let longest = long_rule(4_096);
     assert_eq!(desk::rule_refusal(&longest), 0);
     assert_eq!(second_rule_refusal(&longest), 0);
