@@ -1,10 +1,11 @@
-//! Compares the desk's exports with the second evaluator, byte for byte. `bench` takes times instead, and `stack` tries
-//! an evaluation in so many KiB of stack.
+//! Compares the desk's exports with the second evaluator, byte for byte. `bench` and `speed` take times instead, and
+//! `stack` tries an evaluation in so many KiB of stack.
 
 mod bench;
 mod desk;
 mod evaluations;
 mod rules;
+mod speed;
 mod stack;
 mod tally;
 mod trials;
@@ -14,6 +15,7 @@ fn main() {
     let words: Vec<String> = std::env::args().skip(1).collect();
     match words.iter().map(String::as_str).collect::<Vec<_>>()[..] {
         ["bench"] => return bench::run(),
+        ["speed"] => return speed::run(),
         ["stack", kibibytes] => return stack::run(kibibytes.parse().expect("a number")),
         _ => {}
     }

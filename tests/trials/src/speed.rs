@@ -1,0 +1,312 @@
+//! The times of opening, evaluating and reading beside the second evaluator's, and the comparisons that the search for
+//! an equal term takes; each as rows of a table.
+
+use crate::desk;
+use crate::rules::guarded_update;
+use crate::trials::result_of;
+use second::dice::{record, rule, Dice};
+use second::{evaluate, open, read, records, Answer, Input, Record, ResultOf, Session};
+use std::hint::black_box;
+
+const TABLE: usize = 65_536;
+const ALLOWANCE: u16 = 256;
+/// The counts of terms up to which chains of guarded updates are timed.
+const TERMS: [u16; 4] = [165, 700, 1_400, 2_800];
+
+pub fn run() {
+    println!("| what | desk, ms | second evaluator, ms | ratio |");
+    println!("|---|---|---|---|");
+    random_rules();
+    let nested: Vec<Chain> = TERMS.into_iter().map(nested).collect();
+    let in_turn: Vec<Chain> = TERMS.into_iter().map(in_turn).collect();
+    nested.iter().chain(&in_turn).for_each(Chain::evaluations);
+    openings();
+    in_turn.iter().for_each(Chain::readings);
+    println!("\n| chain | comparisons | of word constants | of a search through all terms |");
+    println!("|---|---|---|---|");
+    nested.iter().chain(&in_turn).for_each(Chain::comparisons);
+}
+
+/// The time that this thread has had on a processor, in milliseconds, so that other work on the machine counts little.
+fn now() -> f64 {
+    #[repr(C)]
+    struct Time {
+        seconds: i64,
+        nanoseconds: i64,
+    }
+    extern "C" {
+        fn clock_gettime(clock: i32, time: *mut Time) -> i32;
+    }
+    const CLOCK_THREAD_CPUTIME_ID: i32 = 3;
+    let mut time = Time {
+        seconds: 0,
+        nanoseconds: 0,
+    };
+    let failed = unsafe { clock_gettime(CLOCK_THREAD_CPUTIME_ID, &mut time) };
+    assert_eq!(failed, 0);
+    time.seconds as f64 * 1e3 + time.nanoseconds as f64 / 1e6
+}
+
+/// Prints the least times of the desk and of the second evaluator, which take turns, over so many runs in a turn. Each
+/// turn works on its own copy, which is made before.
+fn compare<T: Clone>(
+    what: &str,
+    runs: usize,
+    start: &T,
+    mut desk: impl FnMut(&mut T),
+    mut second: impl FnMut(&mut T),
+) {
+    let mut best = [f64::MAX; 2];
+    for _ in 0..20 {
+        let works: [&mut dyn FnMut(&mut T); 2] = [&mut desk, &mut second];
+        for (best, work) in best.iter_mut().zip(works) {
+            let mut copy = start.clone();
+            let begun = now();
+            work(black_box(&mut copy));
+            *best = best.min((now() - begun) / runs as f64);
+        }
+    }
+    let [desk, second] = best;
+    let ratio = desk / second;
+    println!("| {what} | {desk:.4} | {second:.4} | {ratio:.2} |");
+}
+
+/// A session in its two forms, with its table.
+#[derive(Clone)]
+struct Start {
+    session: Session,
+    form: Vec<u8>,
+    table: Vec<u8>,
+}
+
+impl Start {
+    fn new(inputs: &[Input; 16], bytes: usize) -> Start {
+        let mut table = vec![0; bytes];
+        let session = open(inputs, &mut table).expect("a good opening");
+        let form = desk::session_bytes(&session);
+        Start {
+            session,
+            form,
+            table,
+        }
+    }
+
+    fn desk(&mut self, bytes: &[u8]) -> u8 {
+        desk::evaluate(
+            &mut self.form,
+            &mut self.table,
+            bytes,
+            ALLOWANCE,
+            &mut [0; 10],
+        )
+    }
+
+    fn second(&mut self, bytes: &[u8]) -> Answer {
+        evaluate(&mut self.session, &mut self.table, bytes, ALLOWANCE)
+    }
+}
+
+/// Rules of about 50 records, each in a session of its own.
+fn random_rules() {
+    let mut dice = Dice(0x50ee);
+    let mut rules = Vec::new();
+    while rules.len() < 200 {
+        let bytes = dice.rule(120);
+        if (36 * 8..=100 * 8).contains(&bytes.len()) {
+            rules.push(bytes);
+        }
+    }
+    let mean = rules.iter().map(Vec::len).sum::<usize>() / 8 / rules.len();
+    for bytes in [4_096, TABLE] {
+        let starts: Vec<Start> = rules
+            .iter()
+            .map(|_| Start::new(&dice.inputs(), bytes))
+            .collect();
+        let what =
+            format!("evaluate a random rule, {mean} records in the mean, table of {bytes} bytes");
+        compare(
+            &what,
+            rules.len(),
+            &starts,
+            |starts| {
+                for (start, bytes) in starts.iter_mut().zip(&rules) {
+                    black_box(start.desk(bytes));
+                }
+            },
+            |starts| {
+                for (start, bytes) in starts.iter_mut().zip(&rules) {
+                    black_box(start.second(bytes));
+                }
+            },
+        );
+    }
+}
+
+fn openings() {
+    let inputs = [Input { kind: 3, value: 0 }; 16];
+    for bytes in [272, TABLE] {
+        let table = vec![0; bytes];
+        let form = desk::inputs_bytes(&inputs);
+        compare(
+            &format!("open, table of {bytes} bytes"),
+            1,
+            &table,
+            |table| assert_eq!(desk::open(&form, table, &mut [0; 74]), 0),
+            |table| assert!(open(&inputs, table).is_ok()),
+        );
+    }
+}
+
+/// Rules that update a word under guards, one after the other, with where they start and what they leave.
+struct Chain {
+    what: String,
+    start: Start,
+    rules: Vec<Vec<u8>>,
+    end: Start,
+    result: ResultOf,
+}
+
+impl Chain {
+    fn new(what: &str, inputs: &[Input; 16], rules: Vec<Vec<u8>>) -> Chain {
+        let start = Start::new(inputs, TABLE);
+        let mut end = start.clone();
+        let mut result = None;
+        for bytes in &rules {
+            result = result_of(end.second(bytes));
+        }
+        end.form = desk::session_bytes(&end.session);
+        Chain {
+            what: format!("{what}, {} terms", end.session.count),
+            start,
+            rules,
+            end,
+            result: result.expect("an accepted rule"),
+        }
+    }
+
+    fn evaluations(&self) {
+        compare(
+            &format!("evaluate {}", self.what),
+            1,
+            &self.start,
+            |start| {
+                for bytes in &self.rules {
+                    assert_eq!(start.desk(bytes), 0);
+                }
+            },
+            |start| {
+                for bytes in &self.rules {
+                    assert!(result_of(start.second(bytes)).is_some());
+                }
+            },
+        );
+    }
+
+    fn readings(&self) {
+        let Start {
+            session,
+            form,
+            table,
+        } = &self.end;
+        let numbers = [1; 16];
+        let work = vec![0; usize::from(session.count)];
+        let number_bytes = desk::numbers_bytes(&numbers);
+        let result = desk::result_bytes(&self.result);
+        compare(
+            &format!("read after {}", self.what),
+            1,
+            &work,
+            |work| {
+                let refusal = desk::read(form, table, &number_bytes, &result, work, &mut [0; 4]);
+                assert_eq!(refusal, 0);
+            },
+            |work| {
+                black_box(read(session, table, &numbers, &self.result, work.len()));
+            },
+        );
+    }
+
+    /// Each term made was compared with those from the newest down to its largest operand, and equal to none.
+    fn comparisons(&self) {
+        let opened = usize::from(self.start.session.count);
+        let terms: Vec<Record> = records(&self.end.table)
+            .take(usize::from(self.end.session.count))
+            .collect();
+        let made = (terms.len() - opened) as f64;
+        let steps = |n: usize| n - floor(terms[n]);
+        let all: usize = (opened..terms.len()).map(steps).sum();
+        let constants: usize = (opened..terms.len())
+            .filter(|&n| terms[n].kind == 2)
+            .map(steps)
+            .sum();
+        let plain: usize = (opened..terms.len()).sum();
+        let each = |steps: usize| steps as f64 / made;
+        println!(
+            "| {} | {:.1} | {:.1} | {:.0} |",
+            self.what,
+            each(all),
+            each(constants),
+            each(plain)
+        );
+    }
+}
+
+/// One more than the largest number that a term names; 0 where it names none.
+fn floor(term: Record) -> usize {
+    let named: &[u16] = match term.kind {
+        5 => &[term.a, term.b],
+        6 => &[term.a, term.b, term.c],
+        7 => &[term.b],
+        8 if term.b == 65_535 => &[term.a],
+        8 => &[term.a, term.b],
+        _ => &[],
+    };
+    named.iter().map(|&n| usize::from(n) + 1).max().unwrap_or(0)
+}
+
+/// Guarded updates inside one another in one rule, as many as make so many terms.
+fn nested(terms: u16) -> Chain {
+    let mut inputs = [Input { kind: 2, value: 0 }; 16];
+    inputs[15].kind = 3;
+    let chain = |updates| Chain::new("nested updates", &inputs, vec![nested_updates(updates)]);
+    (1..)
+        .map(chain)
+        .find(|chain| chain.end.session.count >= terms)
+        .expect("a chain")
+}
+
+/// k more where the guard holds, under a let for k and one for the sum; the guards are places 0 to 14 in turn.
+fn nested_updates(updates: u16) -> Vec<u8> {
+    let mut list = Vec::new();
+    for n in 0..updates {
+        let at = list.len() as u16;
+        let bindings = 2 * n + 1;
+        let before = if n == 0 { bindings + 15 } else { 1 };
+        list.extend([
+            record(6, 0, at + 1, at + 2, 0),
+            record(1, 2, n + 3, 0, 0),
+            record(6, 0, at + 3, at + 6, 0),
+            record(7, 0, bindings + n % 15, at + 4, at + 5),
+            record(5, 1, before, 0, 0),
+            record(2, 0, before, 0, 0),
+        ]);
+    }
+    list.push(record(2, 0, 0, 0, 0));
+    rule(&list)
+}
+
+/// Guarded updates rule after rule, as many as make so many terms.
+fn in_turn(terms: u16) -> Chain {
+    let mut inputs = [Input { kind: 0, value: 0 }; 16];
+    inputs[0].kind = 2;
+    inputs[1].kind = 3;
+    let mut start = Start::new(&inputs, TABLE);
+    let mut rules = Vec::new();
+    while start.session.count < terms {
+        let bytes = guarded_update(3 + rules.len() as u16);
+        start.second(&bytes);
+        rules.push(bytes);
+    }
+    let what = format!("{} updates in turn", rules.len());
+    Chain::new(&what, &inputs, rules)
+}
