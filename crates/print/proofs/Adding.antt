@@ -8,7 +8,7 @@ use native.Mathlib.Omega.{arith}
 use lib.ListN.{length, take, drop, getD, set, drop-of-length-le}
 use lib.Seq.{take-suc, drop-cons, take-suc-set, take-length}
 use Rattle.print.specs.Text.{space, lineFeed, decimalOf, joined, numbersText}
-use Rattle.print.specs.Appends.{Appends}
+use Rattle.print.specs.Appends.{numberBytes, Appends}
 
 -- one text after another
 pub both-added : {m n : ℕ} {t u s : List ℕ} {at : ℕ} {y : List ℕ} {e : ℕ} {z : List ℕ} {r : ℕ} → Appends m t s at y e → Appends n u y e z r → Appends (m + n) (t ++ u) s at z r
@@ -52,19 +52,19 @@ text-last ns i h =
 pub record Listed (s : List ℕ) (at : ℕ) (ns y : List ℕ) (e i : ℕ) : Type 0 where
   pub is : take e y ++ numbersText (drop i ns) ≡ take at s ++ numbersText ns
   pub low : at ≤ e
-  pub high : e ≤ at + 6 * i
+  pub high : e ≤ at + numberBytes * i
 
 module _ {s : List ℕ} {at : ℕ} {ns : List ℕ} where
   pub none-listed : Listed s at ns s at 0
   none-listed = record { is = refl; low = omega arith; high = omega arith }
 
   module _ {y : List ℕ} {e i : ℕ} (h : Listed s at ns y e i) {z : List ℕ} {r : ℕ} where
-    pub one-listed : i + 1 < length ns → Appends 6 (decimalOf (getD ns i 0) ++ (space ∷ [])) y e z r → Listed s at ns z r (i + 1)
+    pub one-listed : i + 1 < length ns → Appends numberBytes (decimalOf (getD ns i 0) ++ (space ∷ [])) y e z r → Listed s at ns z r (i + 1)
     one-listed l p =
         let a = h .low in let b = h .high in let c = p .low in let d = p .high in
         record { is = rw (p .is, append-assoc, ← text-cons ns i l) (h .is); low = omega arith; high = omega arith }
 
-    pub all-listed : {k : ℕ} → k ≡ i → k + 1 ≡ length ns → Appends 6 (decimalOf (getD ns k 0) ++ (lineFeed ∷ [])) y e z r → Appends (6 * length ns) (numbersText ns) s at z r
+    pub all-listed : {k : ℕ} → k ≡ i → k + 1 ≡ length ns → Appends numberBytes (decimalOf (getD ns k 0) ++ (lineFeed ∷ [])) y e z r → Appends (numberBytes * length ns) (numbersText ns) s at z r
     all-listed {k} q l p =
         let a = h .low in let b = h .high in let c = p .low in let d = p .high in
         record { is = rw (p .is, ← text-last ns k l, q) (h .is); low = omega arith; high = omega arith }

@@ -13,7 +13,7 @@ use borrow.Author.Tests.{lt-ltb, le-ltb, leb-true, leb-false}
 use Rattle.notation.specs.Notation.{with, if_below_then_else_}
 use Rattle.io.specs.Digits.{glyph, digits, Fewest}
 use Rattle.io.specs.Counts.{Counts}
-use Rattle.print.specs.Appends.{Spells, Appends}
+use Rattle.print.specs.Appends.{numberBytes, Spells, Appends}
 use Rattle.print.specs.Text.{digit, decimalWithin, decimalOf}
 
 glyph-digit : (d : ℕ) → d < 10 → glyph d ≡ digit d
@@ -67,7 +67,7 @@ spelled {n} {text} {r} h c f d = record { counts = c; few = few-digits n r h f; 
 
 -- the digits, and a byte after them
 pub number-added : {n : ℕ} {text : List ℕ} {r : ℕ} → Spells n text r → {s : List ℕ} {at : ℕ} {y : List ℕ} {e : ℕ} → Appends (length (take r text)) (take r text) s at y e → e < length y → (a : ℕ)
-    → Appends 6 (decimalOf n ++ (a ∷ [])) s at (set y e a) (e + 1)
+    → Appends numberBytes (decimalOf n ++ (a ∷ [])) s at (set y e a) (e + 1)
 number-added {n} {text} {r} d {s} {at} {y} {e} p l a =
     let c = d .counts in
     let k = d .few in

@@ -17,7 +17,7 @@ use Rattle.semantics.specs.Numbers.{termLimit}
 use Rattle.semantics.specs.Terms.{termAt}
 use Rattle.semantics.specs.Print.{Line, out, halt, refusal, termLine, termLines, answerLines, printAllowance, evaluationLines}
 use Rattle.print.specs.Text.{ascii, joined, numbersText, lineText, linesText}
-use Rattle.print.specs.Appends.{Appends, Writes, Told}
+use Rattle.print.specs.Appends.{lineBytes, Appends, Writes, Told}
 use Rattle.print.proofs.Adding.{both-added}
 
 -- a text from the start on, in a buffer that has room for it
@@ -30,7 +30,7 @@ written {y = y} {r} h p = let a = p .high in let b : r ≤ length y = omega arit
 pub record Shown (s : List ℕ) (at : ℕ) (t : List ℕ) (from to : ℕ) (y : List ℕ) (e i : ℕ) : Type 0 where
   pub is : take e y ++ linesText (termLines t i (to - i)) ≡ take at s ++ linesText (termLines t from (to - from))
   pub low : at ≤ e
-  pub high : e ≤ at + 36 * (i - from)
+  pub high : e ≤ at + lineBytes * (i - from)
   pub above : from ≤ i
   pub below : i - from ≤ to - from
 
@@ -43,12 +43,12 @@ module _ {s : List ℕ} {at : ℕ} {t : List ℕ} {from to : ℕ} where
     unfolding linesText termLines
     left l = let k : to - i ≡ suc (to - (i + 1)) = omega arith in rw (k, add-one)
 
-    pub one-shown : i < to → {x : Term} → x ≡ termAt t i → {z : List ℕ} {r : ℕ} → Appends 36 (lineText (termLine i x)) y e z r → Shown s at t from to z r (i + 1)
+    pub one-shown : i < to → {x : Term} → x ≡ termAt t i → {z : List ℕ} {r : ℕ} → Appends lineBytes (lineText (termLine i x)) y e z r → Shown s at t from to z r (i + 1)
     one-shown l ex p =
         let a = h .low in let b = h .high in let c = p .low in let d = p .high in let f = h .above in
         record { is = rw (p .is, ex, append-assoc, ← left l) (h .is); low = omega arith; high = omega arith; above = omega arith; below = omega arith }
 
-    pub all-shown : to ≤ i → Appends (36 * (to - from)) (linesText (termLines t from (to - from))) s at y e
+    pub all-shown : to ≤ i → Appends (lineBytes * (to - from)) (linesText (termLines t from (to - from))) s at y e
     unfolding linesText termLines
     all-shown l =
         let b = h .high in let f = h .below in
@@ -62,9 +62,9 @@ pub refused-line : (k : ℕ) {s y : List ℕ} {r : ℕ} → 14 ≤ length y → 
 unfolding lineText numbersText joined
 refused-line k h p = written h p
 
--- a line of 36 bytes for each term of the largest table, and the first line
+-- a line for each term of the largest table, and the first line
 abbrev outputBytes : ℕ
-outputBytes = 36 * (termLimit + 1)
+outputBytes = lineBytes * (termLimit + 1)
 
 -- by how the evaluation ended, with the terms' lines after the first
 module _ (a : Answer) (n : ℕ) (h : Told a n) where
@@ -74,8 +74,8 @@ module _ (a : Answer) (n : ℕ) (h : Told a n) where
   pub told-halt : {x : State} {d : ℕ} → a ≡ Halt x d → n ≤ termLimit
   told-halt e = rw e at h
 
-  module _ (m : ℕ) (ls : List Line) {s y z : List ℕ} {e r : ℕ} (room : length z ≡ outputBytes) (q : Appends (36 * (n - m)) (linesText ls) y e z r) where
-    both-lines : n ≤ termLimit → {w : List ℕ} {k : ℕ} → k ≤ 36 → Appends k w s 0 y e → Writes (w ++ linesText ls) z r
+  module _ (m : ℕ) (ls : List Line) {s y z : List ℕ} {e r : ℕ} (room : length z ≡ outputBytes) (q : Appends (lineBytes * (n - m)) (linesText ls) y e z r) where
+    both-lines : n ≤ termLimit → {w : List ℕ} {k : ℕ} → k ≤ lineBytes → Appends k w s 0 y e → Writes (w ++ linesText ls) z r
     both-lines l j p = written (omega arith) (both-added p q)
 
     pub answered-out : {x : State} {v d : ℕ} → a ≡ Out x v d → Appends 28 (ascii "out " ++ numbersText (x .assumed ∷ x .asserted ∷ v ∷ n ∷ [])) s 0 y e

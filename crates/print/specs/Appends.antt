@@ -1,6 +1,6 @@
 -- What code that adds text to a buffer promises. Assumes nothing.
 use mathlib.Core.Path.{_≡_}
-use Prim.Native.Nat.{ℕ, _+_, _≤_}
+use Prim.Native.Nat.{ℕ, _+_, _*_, _≤_}
 use mathlib.Core.List.{List, _++_}
 use lib.ListN.{take}
 use Rattle.semantics.specs.declared.Answer.{Answer}
@@ -8,6 +8,14 @@ use Rattle.semantics.specs.declared.Answer.the-variants.{Out, Halt, Refused}
 use Rattle.semantics.specs.Numbers.{termLimit}
 use Rattle.io.specs.Counts.{Counts}
 use Rattle.print.specs.Text.{decimalOf}
+
+-- the longest number and the byte after it: below 65,536 there are at most five digits
+abbrev pub numberBytes : ℕ
+numberBytes = 6
+
+-- the longest line, a term's of six numbers
+abbrev pub lineBytes : ℕ
+lineBytes = 6 * numberBytes
 
 -- The first r bytes of the text are n in base ten.
 pub record Spells (n : ℕ) (text : List ℕ) (r : ℕ) : Type 0 where

@@ -1,22 +1,23 @@
 // The sixteen inputs at the start of what is read: a kind, a zero and a value of two bytes each, the low byte first.
 use semantics::Input;
+use semantics::numbers;
 ghost use mathlib.Core.Path.{_≡_};
 ghost use Prim.Native.Nat.{_+_, _*_};
 ghost use Rattle.semantics.specs.Numbers.{inputCount};
 ghost use Rattle.semantics.specs.Print.{inputAt, inputsFrom, inputsWhole};
 
 // How many bytes they take.
-pub const BYTES: usize = 64;
+pub(crate) const BYTES: usize = 4 * (numbers::INPUT_COUNT as usize);
 
 // No input record is cut short, and the second byte of each is zero.
-pub fn whole(s: &[u8]) -> bool
+pub(crate) fn whole(s: &[u8]) -> bool
     ensures { λ r. ⌜ r ≡ inputsWhole (now (s .entry)) ⌝ }
 {
     if s.len() < BYTES {
         return false;
     }
-    for i in 0..16usize {
-        if records::byte(s, 4 * i + 1) != 0 {
+    for i in 0..numbers::INPUT_COUNT {
+        if records::byte(s, 4 * (i as usize) + 1) != 0 {
             return false;
         }
     }
@@ -31,7 +32,7 @@ fn pair(low: u8, high: u8) -> u16
 }
 
 // Input i of the sixteen.
-fn input(s: &[u8], i: u8) -> Input
+fn input(s: &[u8], i: u16) -> Input
     ensures { λ r. ⌜ r ≡ inputAt (now (s .entry)) i ⌝ }
 {
     let at = 4 * (i as usize);
@@ -41,11 +42,12 @@ fn input(s: &[u8], i: u8) -> Input
     }
 }
 
-pub fn all(s: &[u8]) -> [Input; 16]
+// All sixteen.
+pub(crate) fn all(s: &[u8]) -> [Input; 16]
     ensures { λ r. ⌜ r ≡ inputsFrom (now (s .entry)) 0 inputCount ⌝ }
 {
     let mut inputs = [Input { kind: 0, value: 0 }; 16];
-    for i in 0..16u8 {
+    for i in 0..numbers::INPUT_COUNT {
         inputs[i as usize] = input(s, i);
     }
     inputs

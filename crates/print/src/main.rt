@@ -17,14 +17,14 @@ ghost use lib.ListN.{length};
 ghost use Rattle.semantics.specs.Numbers.{inputCount};
 ghost use Rattle.semantics.specs.Print.{refusal, termLine, termLines, answerLines, evaluationLines};
 ghost use Rattle.print.specs.Text.{lineText, linesText, writtenOf};
-ghost use Rattle.print.specs.Appends.{Appends, Writes, Told};
+ghost use Rattle.print.specs.Appends.{lineBytes, Appends, Writes, Told};
 
 const ALLOWANCE: u16 = 100;
 
 // One byte more than the inputs and the longest rule take: the rest of a longer input makes no difference.
 const INPUT: usize = inputs::BYTES + numbers::RULE_BYTES + 1;
 
-// The longest line of a term.
+// The longest line: six numbers of five digits, each with a byte after it.
 const LINE: usize = 36;
 
 // A line for each term of the largest table, and the first line.
@@ -39,16 +39,16 @@ fn put_refusal(out: &mut [u8; OUTPUT], k: u8) -> usize
 
 // A term's line: its number and its fields.
 fn put_term(out: &mut [u8], at: usize, i: u16, t: Term) -> usize
-    requires { ⌜ at + 36 ≤ length (now out) ⌝ }
-    ensures { λ r. ⌜ Appends 36 (lineText (termLine i t)) (now (out .entry)) at (now (out .exit)) r ⌝ }
+    requires { ⌜ at + lineBytes ≤ length (now out) ⌝ }
+    ensures { λ r. ⌜ Appends lineBytes (lineText (termLine i t)) (now (out .entry)) at (now (out .exit)) r ⌝ }
 {
     text::put_numbers(out, at, &[i, t.kind as u16, t.op as u16, t.a, t.b, t.c])
 }
 
 // The lines of the terms from one number up to another.
 fn put_terms(out: &mut [u8], at: usize, table: &[u8], from: u16, to: u16) -> usize
-    requires { ⌜ at + 36 * (to - from) ≤ length (now out) ⌝ }
-    ensures { λ r. ⌜ Appends (36 * (to - from)) (linesText (termLines (now (table .entry)) from (to - from))) (now (out .entry)) at (now (out .exit)) r ⌝ }
+    requires { ⌜ at + lineBytes * (to - from) ≤ length (now out) ⌝ }
+    ensures { λ r. ⌜ Appends (lineBytes * (to - from)) (linesText (termLines (now (table .entry)) from (to - from))) (now (out .entry)) at (now (out .exit)) r ⌝ }
 {
     let mut end = at;
     for i in from..to {

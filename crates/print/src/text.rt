@@ -1,9 +1,10 @@
-// Lines of text in a lent buffer. Each function puts its text at a place and answers the place after it.
+// Text in a lent buffer: each function puts its text at a place and answers the place after it. What they require is
+// room for it.
 ghost use mathlib.Core.List.{[], _∷_, _++_};
 ghost use Prim.Native.Nat.{_+_, _*_, _<_, _≤_};
 ghost use lib.ListN.{length};
 ghost use Rattle.print.specs.Text.{decimalOf, numbersText};
-ghost use Rattle.print.specs.Appends.{Spells, Appends};
+ghost use Rattle.print.specs.Appends.{numberBytes, Spells, Appends};
 
 const SPACE: u8 = 32;
 
@@ -27,10 +28,10 @@ fn spell(n: u16, digits: &mut [u8; 20]) -> usize
     io::decimal(n as u64, digits)
 }
 
-// A number in base ten, and the byte after it: at most 6 bytes.
+// A number in base ten, and a byte after it.
 fn put_number(out: &mut [u8], at: usize, n: u16, after: u8) -> usize
-    requires { ⌜ at + 6 ≤ length (now out) ⌝ }
-    ensures { λ r. ⌜ Appends 6 (decimalOf n ++ (after ∷ [])) (now (out .entry)) at (now (out .exit)) r ⌝ }
+    requires { ⌜ at + numberBytes ≤ length (now out) ⌝ }
+    ensures { λ r. ⌜ Appends numberBytes (decimalOf n ++ (after ∷ [])) (now (out .entry)) at (now (out .exit)) r ⌝ }
 {
     let mut digits = [0u8; 20];
     let k = spell(n, &mut digits);
@@ -39,10 +40,10 @@ fn put_number(out: &mut [u8], at: usize, n: u16, after: u8) -> usize
     end + 1
 }
 
-// Numbers, parted by spaces, and a line feed.
-pub fn put_numbers(out: &mut [u8], at: usize, numbers: &[u16]) -> usize
-    requires { ⌜ (0 < length (now numbers)) × (at + 6 * length (now numbers) ≤ length (now out)) ⌝ }
-    ensures { λ r. ⌜ Appends (6 * length (now (numbers .entry))) (numbersText (now (numbers .entry))) (now (out .entry)) at (now (out .exit)) r ⌝ }
+// One or more numbers, parted by spaces, and a line feed.
+pub(crate) fn put_numbers(out: &mut [u8], at: usize, numbers: &[u16]) -> usize
+    requires { ⌜ (0 < length (now numbers)) × (at + numberBytes * length (now numbers) ≤ length (now out)) ⌝ }
+    ensures { λ r. ⌜ Appends (numberBytes * length (now (numbers .entry))) (numbersText (now (numbers .entry))) (now (out .entry)) at (now (out .exit)) r ⌝ }
 {
     let last = numbers.len() - 1;
     let mut end = at;
@@ -53,9 +54,9 @@ pub fn put_numbers(out: &mut [u8], at: usize, numbers: &[u16]) -> usize
 }
 
 // A line that begins with a word, which has a space after it.
-pub fn put_line(out: &mut [u8], at: usize, word: &[u8], numbers: &[u16]) -> usize
-    requires { ⌜ (0 < length (now numbers)) × (at + (length (now word) + 6 * length (now numbers)) ≤ length (now out)) ⌝ }
-    ensures { λ r. ⌜ Appends (length (now (word .entry)) + 6 * length (now (numbers .entry))) (now (word .entry) ++ numbersText (now (numbers .entry))) (now (out .entry)) at (now (out .exit)) r ⌝ }
+pub(crate) fn put_line(out: &mut [u8], at: usize, word: &[u8], numbers: &[u16]) -> usize
+    requires { ⌜ (0 < length (now numbers)) × (at + (length (now word) + numberBytes * length (now numbers)) ≤ length (now out)) ⌝ }
+    ensures { λ r. ⌜ Appends (length (now (word .entry)) + numberBytes * length (now (numbers .entry))) (now (word .entry) ++ numbersText (now (numbers .entry))) (now (out .entry)) at (now (out .exit)) r ⌝ }
 {
     let end = put_bytes(out, at, word);
     put_numbers(out, end, numbers)

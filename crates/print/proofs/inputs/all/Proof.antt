@@ -1,15 +1,16 @@
 -- `inputs::all` meets its contract. The invariant: the inputs before i stand in the array. The measure is what is left of 16. Assumes nothing.
 use Prim.Native.Nat.{_-_, _≤_}
 use borrow.Author.Needs.{needs}
+use Rattle.semantics.specs.Numbers.{inputCount}
 use Rattle.print.proofs.Taken.{Taken, none-taken, one-taken, all-taken}
 use Rattle.print.proofs.inputs.all.Statement.{statement}
 use Rattle.print.proofs.inputs.all.Tie as tie
 
 abbrev Inv-loop : tie.InvT-loop
-Inv-loop s inputs₀ i₀ inputs i = (i ≤ 16) × Taken s inputs i
+Inv-loop s inputs₀ i₀ inputs i = (i ≤ inputCount) × Taken s inputs i
 
 abbrev μ-loop : tie.MeasureT-loop
-μ-loop s inputs₀ i₀ inputs i = 16 - i
+μ-loop s inputs₀ i₀ inputs i = inputCount - i
 
 loop-holds : tie.Need-loop-holds Inv-loop μ-loop
 loop-holds c = search (needs, none-taken)

@@ -2,21 +2,25 @@
 -- what is left of 16. Assumes nothing.
 use Prim.Native.Nat.{_-_, _≤_}
 use borrow.Author.Needs.{needs}
+use Rattle.semantics.specs.Numbers.{inputCount}
 use Rattle.print.proofs.Taken.{Zeroed, cut-short, none-zeroed, one-zeroed, not-zeroed, all-zeroed}
 use Rattle.print.proofs.inputs.whole.Statement.{statement}
 use Rattle.print.proofs.inputs.whole.Tie as tie
 
 abbrev Inv-loop : tie.InvT-loop
-Inv-loop s i₀ i = (i ≤ 16) × Zeroed s i
+Inv-loop s i₀ i = (i ≤ inputCount) × Zeroed s i
 
 abbrev μ-loop : tie.MeasureT-loop
-μ-loop s i₀ i = 16 - i
+μ-loop s i₀ i = inputCount - i
 
 returns : tie.Need-returns Inv-loop μ-loop
 returns c = search cut-short
 
 loop-holds : tie.Need-loop-holds Inv-loop μ-loop
 loop-holds c = search (needs, none-zeroed)
+
+cast-byte : tie.Need-cast-byte Inv-loop μ-loop
+cast-byte c = search needs
 
 mul-byte : tie.Need-mul-byte Inv-loop μ-loop
 mul-byte c = search needs
@@ -50,6 +54,7 @@ whole-spec =
     μ-loop
     returns
     loop-holds
+    cast-byte
     mul-byte
     add-byte
     byte-requires
