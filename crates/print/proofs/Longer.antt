@@ -1,0 +1,98 @@
+-- What stands past one byte more than the inputs and the longest rule makes no difference, so that the program need not read it. Assumes nothing.
+use mathlib.Core.Path.{_≡_, refl, ap}
+use mathlib.Core.Bool.{Bool, true, false}
+use mathlib.Core.List.{List}
+use Prim.Native.Nat.{ℕ, zero, suc, _+_, _-_, _*_, _<_, _≤_}
+use native.Mathlib.Omega.{arith}
+use lib.Dec.{leb, eqb}
+use lib.ListN.{length, take, drop, getD, replicate, length-drop}
+use lib.Seq.{take-all, length-take-le, getD-take}
+use borrow.Author.Tests.{leb-true, leb-false, le-leb, lt-ltb}
+use Rattle.notation.specs.Notation.{with, if_then_else_, if_equals_then_else_, if_below_then_else_, unless_then_else_}
+use Rattle.semantics.specs.declared.Session.{Session}
+use Rattle.semantics.specs.declared.Opened.{Opened}
+use Rattle.semantics.specs.Numbers.{inputCount, ruleBytes, mostTable, misfit, ruleSize}
+use Rattle.semantics.specs.Rules.{upTo, badRuleSize, ruleRefusalOf}
+use Rattle.semantics.specs.Opening.{openOf}
+use Rattle.semantics.specs.Fits.{fitsOf}
+use Rattle.semantics.specs.Evaluate.{refusedBy, evaluateOf}
+use Rattle.semantics.specs.Print.{printAllowance, inputBytes, inputsFrom, inputsWhole, evaluationLines, openingLines, printedOf}
+use Rattle.print.specs.Text.{linesText, writtenOf}
+
+-- ---- a rule that is too long is refused, whatever its bytes
+
+too-long : (rule : List ℕ) → ruleBytes < length rule → ruleRefusalOf rule ≡ ruleSize
+unfolding ruleRefusalOf if_then_else_ badRuleSize
+too-long rule h = go (eqb (length rule) 0) refl
+  where
+    go : (b : Bool) → eqb (length rule) 0 ≡ b → ruleRefusalOf rule ≡ ruleSize
+    go true e = rw e
+    go false e = rw (e, lt-ltb _ _ h)
+
+long-refused : (rule : List ℕ) → ruleBytes < length rule → (x : Session) (t : List ℕ)
+    → evaluateOf rule printAllowance x t ≡ (unless fitsOf x t then refusedBy misfit else refusedBy ruleSize) x t
+unfolding evaluateOf unless_then_else_ with if_below_then_else_
+long-refused rule h x t = rw (too-long rule h)
+
+same-lines : (a b : List ℕ) → ruleBytes < length a → ruleBytes < length b → (x : Session) (t : List ℕ) → evaluationLines a x t ≡ evaluationLines b x t
+unfolding evaluationLines
+same-lines a b h k x t = rw (long-refused a h x t, long-refused b k x t)
+
+-- ---- the inputs stand before what is cut off
+
+up-same : (n : ℕ) (f g : ℕ → Bool) → ((i : ℕ) → i < n → f i ≡ g i) → upTo n f ≡ upTo n g
+unfolding upTo
+up-same zero f g h = refl
+up-same (suc n) f g h = rw (up-same n f g (λ i l. h i (omega arith)), h n (omega arith))
+
+module _ (n : ℕ) (s : List ℕ) (enough : inputBytes + ruleBytes < n) (long : n < length s) where
+  abbrev cut : List ℕ
+  cut = take n s
+
+  cut-at : (i : ℕ) → i < inputBytes → getD cut i 0 ≡ getD s i 0
+  cut-at i h = getD-take n s i 0 (omega arith)
+
+  cut-length : length cut ≡ n
+  cut-length = length-take-le n s (omega arith)
+
+  same-whole : inputsWhole cut ≡ inputsWhole s
+  unfolding inputsWhole
+  same-whole =
+      let l = cut-length in
+      let a : inputBytes ≤ length cut = omega arith in
+      let b : inputBytes ≤ length s = omega arith in
+      rw (le-leb _ _ a, le-leb _ _ b)
+      (up-same inputCount (λ i. eqb (getD cut (4 * i + 1) 0) 0) (λ i. eqb (getD s (4 * i + 1) 0) 0) λ i h. rw (cut-at (4 * i + 1) (omega arith)))
+
+  same-inputs : (i k : ℕ) → 4 * (i + k) ≤ inputBytes → inputsFrom cut i k ≡ inputsFrom s i k
+  unfolding inputsFrom
+  same-inputs i zero h = refl
+  same-inputs i (suc k) h =
+      rw (cut-at (4 * i) (omega arith), cut-at (4 * i + 2) (omega arith), cut-at (4 * i + 2 + 1) (omega arith), same-inputs (suc i) k (omega arith))
+
+  same-opening : (o : Opened × List ℕ) → openingLines cut o ≡ openingLines s o
+  unfolding openingLines with if_equals_then_else_
+  same-opening o = go (eqb (o .0 .refusal) 0) refl
+    where
+      rest : (l : List ℕ) → inputBytes + ruleBytes < length l → ruleBytes < length (drop inputBytes l)
+      rest l h = rw (length-drop inputBytes l) (omega arith)
+
+      go : (b : Bool) → eqb (o .0 .refusal) 0 ≡ b → openingLines cut o ≡ openingLines s o
+      go true e = rw e (same-lines (drop inputBytes cut) (drop inputBytes s) (rest cut (omega (arith, cut-length))) (rest s (omega arith)) (o .0 .session) (o .1))
+      go false e = rw e
+
+  same-printed : printedOf cut ≡ printedOf s
+  unfolding printedOf with if_then_else_
+  same-printed = go (inputsWhole s) refl
+    where
+      go : (b : Bool) → inputsWhole s ≡ b → printedOf cut ≡ printedOf s
+      go true e = rw (same-whole, e, same-inputs 0 inputCount (omega arith)) (same-opening (openOf (inputsFrom s 0 inputCount) (replicate mostTable 0)))
+      go false e = rw (same-whole, e)
+
+pub longer : (n : ℕ) → inputBytes + ruleBytes < n → (s : List ℕ) → writtenOf (take n s) ≡ writtenOf s
+unfolding writtenOf
+longer n h s = go (leb (length s) n) refl
+  where
+    go : (b : Bool) → leb (length s) n ≡ b → linesText (printedOf (take n s)) ≡ linesText (printedOf s)
+    go true e = ap (λ (l : List ℕ). linesText (printedOf l)) (take-all n s (leb-true _ _ e))
+    go false e = ap linesText (same-printed n s h (leb-false _ _ e))
