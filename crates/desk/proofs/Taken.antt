@@ -14,7 +14,7 @@ use Rattle.semantics.specs.Records.{pairAt}
 use Rattle.semantics.specs.Rules.{upTo}
 use Rattle.semantics.specs.Print.{inputAt}
 use Rattle.rules.proofs.Follow.{up-next, up-stop, up-end}
-use Rattle.desk.specs.Forms.{eachBelow, inputsIn, inputsZeroed, numbersIn, markFormed}
+use Rattle.desk.specs.Forms.{eachBelow, inputsIn, inputsZeroed, numbersIn, markFormed, sessionIn}
 
 -- ---- an array that is filled from its first place on
 
@@ -65,3 +65,9 @@ module _ (s : List ℕ) (i : ℕ) {a : ℕ} (ea : a ≡ getD s i 0) where
   pub mark-high : 2 ≤ a → false ≡ markFormed s i
   unfolding markFormed
   mark-high h = rw (← ea, le-ltb a 2 h)
+
+-- ---- a session
+pub session-taken : (s : List ℕ) {xs : List Input} → xs ≡ inputsIn s → {count assumed asserted accepted : ℕ} → count ≡ pairAt s 64 → assumed ≡ pairAt s 66 → asserted ≡ pairAt s 68 → accepted ≡ pairAt s 70
+    → {m : ℕ} → m ≡ getD s 72 0 → record { inputs = xs; count = count; state = record { assumed = assumed; asserted = asserted }; halted = eqb m 1; accepted = accepted } ≡ sessionIn s
+unfolding sessionIn
+session-taken s exs ec es et ea em = rw (exs, ec, es, et, ea, em)

@@ -30,10 +30,22 @@ sets-then (v ∷ vs) ws s i j e = sets-then vs ws (set s i v) (suc i) j (omega a
 pub put-pair : (s : List ℕ) (i v : ℕ) {y z : List ℕ} → y ≡ set s i (v % 256) → z ≡ set y (i + 1) (v / 256) → z ≡ sets s i (pairsOf (v ∷ []))
 put-pair s i v ey ez = ez ∙ rw (ey, add-one)
 
+pub put-four : (s : List ℕ) (i a b c d : ℕ) {w x y z : List ℕ} → w ≡ sets s i (pairsOf (a ∷ [])) → x ≡ sets w (i + 2) (pairsOf (b ∷ [])) → y ≡ sets x (i + 4) (pairsOf (c ∷ []))
+    → z ≡ sets y (i + 6) (pairsOf (d ∷ [])) → z ≡ sets s i (pairsOf (a ∷ b ∷ c ∷ d ∷ []))
+put-four s i a b c d ew ex ey ez =
+    let two : i + 2 ≡ suc (suc i) = omega arith in
+    let four : i + 4 ≡ suc (suc (suc (suc i))) = omega arith in
+    let six : i + 6 ≡ suc (suc (suc (suc (suc (suc i))))) = omega arith in
+    ez ∙ rw (ey, ex, ew, two, four, six)
+
 -- a byte, a zero and what follows them
 module _ (s : List ℕ) (i b : ℕ) (vs : List ℕ) {y z w : List ℕ} where
   pub put-tagged : y ≡ set s i b → z ≡ set y (i + 1) 0 → w ≡ sets z (i + 2) vs → w ≡ sets s i (b ∷ 0 ∷ vs)
   put-tagged ey ez ew = let q : i + 2 ≡ suc (suc i) = omega arith in ew ∙ rw (ez, ey, add-one, q)
+
+  -- where the byte is the answer of a call
+  pub put-marked : {k : ℕ} → k ≡ b → y ≡ set s i k → z ≡ set y (i + 1) 0 → w ≡ sets z (i + 2) vs → w ≡ sets s i (b ∷ 0 ∷ vs)
+  put-marked ek ey = put-tagged (ey ∙ rw ek)
 
 -- ---- inputs
 inputs-length : (xs : List Input) → length (inputsBytes xs) ≡ 4 * length xs

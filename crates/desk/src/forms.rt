@@ -179,6 +179,17 @@ fn put_two(s: &mut [u8], at: u16, v: u16)
     put(s, i + 1, (v / 256) as u8);
 }
 
+// Four numbers of two bytes each.
+fn put_four(s: &mut [u8], at: u8, a: u16, b: u16, c: u16, d: u16)
+    ensures { λ _. ⌜ now (s .exit) ≡ sets (now (s .entry)) at (pairsOf (a ∷ b ∷ c ∷ d ∷ [])) ⌝ }
+{
+    let i = at as u16;
+    put_two(s, i, a);
+    put_two(s, i + 2, b);
+    put_two(s, i + 4, c);
+    put_two(s, i + 6, d);
+}
+
 pub fn bit_of(b: bool) -> u8
     ensures { λ r. ⌜ r ≡ bit b ⌝ }
 {
@@ -204,23 +215,13 @@ fn put_inputs(s: &mut [u8], inputs: [Input; 16])
     }
 }
 
-// What stands between a session's inputs and its mark.
-fn put_counts(s: &mut [u8], count: u16, state: State, accepted: u16)
-    ensures { λ _. ⌜ now (s .exit) ≡ sets (now (s .entry)) 64 (pairsOf (count ∷ state .assumed ∷ state .asserted ∷ accepted ∷ [])) ⌝ }
-{
-    put_two(s, 64, count);
-    put_two(s, 66, state.assumed);
-    put_two(s, 68, state.asserted);
-    put_two(s, 70, accepted);
-}
-
 pub fn put_session(s: &mut [u8], x: Session)
     ensures { λ _. ⌜ (length (sessionBytes x) ≡ 74) × (now (s .exit) ≡ sets (now (s .entry)) 0 (sessionBytes x)) ⌝ }
 {
     let inputs = x.inputs;
     let state = x.state;
     put_inputs(s, inputs);
-    put_counts(s, x.count, state, x.accepted);
+    put_four(s, 64, x.count, state.assumed, state.asserted, x.accepted);
     put(s, 72, bit_of(x.halted));
     put(s, 73, 0);
 }
@@ -230,10 +231,7 @@ pub fn put_answer(s: &mut [u8], halted: bool, x: State, value: u16, depth: u16)
 {
     put(s, 0, bit_of(halted));
     put(s, 1, 0);
-    put_two(s, 2, x.assumed);
-    put_two(s, 4, x.asserted);
-    put_two(s, 6, value);
-    put_two(s, 8, depth);
+    put_four(s, 2, x.assumed, x.asserted, value, depth);
 }
 
 // What was read, and its number.

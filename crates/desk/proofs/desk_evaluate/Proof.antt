@@ -38,7 +38,10 @@ same-length-5 : tie.Need-same-length-5
 same-length-5 c = search needs
 
 returns-3 : tie.Need-returns-3
-returns-3 c = search (needs, evaluate-whole)
+returns-3 c =
+    let known = c .before .before .before .before .before .before .before .before .before .before in
+    let formed = known .before .before .before .before in
+    evaluate-whole _ _ _ _ _ (formed .before .before .session-formed .ensures) (formed .before .if1 .taken) (formed .if2 .left) (known .before .before .session-in .ensures) (known .evaluate .ensures) (c .before .before .before .before .evaluated .ensures)
 
 pub desk-evaluate-spec : {M : Type 1} → statement M
 desk-evaluate-spec =

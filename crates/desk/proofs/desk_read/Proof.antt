@@ -38,7 +38,11 @@ same-length-3 : tie.Need-same-length-3
 same-length-3 c = search needs
 
 returns-2 : tie.Need-returns-2
-returns-2 c = search (needs, read-whole)
+returns-2 c =
+    let ran = c .before .before .before .before .before .before in
+    let formed = ran .before .before .before .before .before in
+    read-whole _ _ _ _ _ _ (formed .before .read-unformed .ensures) (formed .if1 .left) (ran .before .before .before .before .session-in .ensures) (ran .before .before .before .numbers-in .ensures)
+    (ran .before .before .result-in .ensures) (ran .read .ensures) (c .before .before .answered .ensures)
 
 pub desk-read-spec : {M : Type 1} → statement M
 desk-read-spec =

@@ -36,7 +36,11 @@ same-length-3 : tie.Need-same-length-3
 same-length-3 c = search needs
 
 returns-2 : tie.Need-returns-2
-returns-2 c = search (needs, run-whole)
+returns-2 c =
+    let ran = c .before .before .before .before .before .before in
+    let formed = ran .before .before .before .before in
+    run-whole _ _ _ _ _ _ (formed .before .run-unformed .ensures) (formed .if1 .left) (ran .before .before .before .inputs-in .ensures) (ran .before .before .numbers-in .ensures) (ran .run-plainly .ensures)
+    (c .before .before .answered .ensures)
 
 pub desk-run-spec : {M : Type 1} → statement M
 desk-run-spec =

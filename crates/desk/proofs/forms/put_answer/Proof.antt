@@ -1,5 +1,6 @@
 -- `forms::put_answer` meets its contract. Assumes nothing.
 use borrow.Author.Needs.{needs}
+use Rattle.desk.proofs.Written.{put-marked}
 use Rattle.desk.proofs.forms.put_answer.Statement.{statement}
 use Rattle.desk.proofs.forms.put_answer.Tie as tie
 
@@ -12,34 +13,16 @@ put-requires c κs = search needs
 put-requires-2 : tie.Need-put-requires-2
 put-requires-2 c κs = search needs
 
-put-two-requires : tie.Need-put-two-requires
-put-two-requires c κs = search needs
-
-put-two-requires-2 : tie.Need-put-two-requires-2
-put-two-requires-2 c κs = search needs
-
-put-two-requires-3 : tie.Need-put-two-requires-3
-put-two-requires-3 c κs = search needs
-
-put-two-requires-4 : tie.Need-put-two-requires-4
-put-two-requires-4 c κs = search needs
+put-four-requires : tie.Need-put-four-requires
+put-four-requires c κs = search needs
 
 same-length : tie.Need-same-length
 same-length c = search needs
 
 returns : tie.Need-returns
-returns c = cc
+returns c = search put-marked
 
 pub put-answer-spec : {M : Type 1} → statement M
 put-answer-spec =
     tie.close
-    (tie.spec
-    bit-of-requires
-    put-requires
-    put-requires-2
-    put-two-requires
-    put-two-requires-2
-    put-two-requires-3
-    put-two-requires-4
-    same-length
-    returns)
+    (tie.spec bit-of-requires put-requires put-requires-2 put-four-requires same-length returns)

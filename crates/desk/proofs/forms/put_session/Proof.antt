@@ -7,8 +7,8 @@ use Rattle.desk.proofs.forms.put_session.Tie as tie
 put-inputs-requires : tie.Need-put-inputs-requires
 put-inputs-requires c κs = search needs
 
-put-counts-requires : tie.Need-put-counts-requires
-put-counts-requires c κs = search needs
+put-four-requires : tie.Need-put-four-requires
+put-four-requires c κs = search needs
 
 bit-of-requires : tie.Need-bit-of-requires
 bit-of-requires c κs = search needs
@@ -30,7 +30,7 @@ put-session-spec =
     tie.close
     (tie.spec
     put-inputs-requires
-    put-counts-requires
+    put-four-requires
     bit-of-requires
     put-requires
     put-requires-2

@@ -1,6 +1,6 @@
 -- `forms::session_in` meets its contract. Assumes nothing.
 use borrow.Author.Needs.{needs}
-use Rattle.desk.specs.Forms.{sessionIn}
+use Rattle.desk.proofs.Taken.{session-taken}
 use Rattle.desk.proofs.forms.session_in.Statement.{statement}
 use Rattle.desk.proofs.forms.session_in.Tie as tie
 
@@ -23,8 +23,7 @@ two-requires-4 : tie.Need-two-requires-4
 two-requires-4 c κs = search needs
 
 returns : tie.Need-returns
-unfolding sessionIn
-returns c = cc
+returns c = search session-taken
 
 pub session-in-spec : {M : Type 1} → statement M
 session-in-spec =

@@ -1,16 +1,26 @@
--- `forms::put_counts` meets its contract. Assumes nothing.
+-- `forms::put_four` meets its contract. Assumes nothing.
 use borrow.Author.Needs.{needs}
-use Rattle.desk.proofs.forms.put_counts.Statement.{statement}
-use Rattle.desk.proofs.forms.put_counts.Tie as tie
+use Rattle.desk.proofs.Written.{put-four}
+use Rattle.desk.proofs.forms.put_four.Statement.{statement}
+use Rattle.desk.proofs.forms.put_four.Tie as tie
 
 put-two-requires : tie.Need-put-two-requires
 put-two-requires c κs = search needs
 
+add-put-two : tie.Need-add-put-two
+add-put-two c = search needs
+
 put-two-requires-2 : tie.Need-put-two-requires-2
 put-two-requires-2 c κs = search needs
 
+add-put-two-2 : tie.Need-add-put-two-2
+add-put-two-2 c = search needs
+
 put-two-requires-3 : tie.Need-put-two-requires-3
 put-two-requires-3 c κs = search needs
+
+add-put-two-3 : tie.Need-add-put-two-3
+add-put-two-3 c = search needs
 
 put-two-requires-4 : tie.Need-put-two-requires-4
 put-two-requires-4 c κs = search needs
@@ -19,15 +29,18 @@ same-length : tie.Need-same-length
 same-length c = search needs
 
 returns : tie.Need-returns
-returns c = cc
+returns c = search put-four
 
-pub put-counts-spec : {M : Type 1} → statement M
-put-counts-spec =
+pub put-four-spec : {M : Type 1} → statement M
+put-four-spec =
     tie.close
     (tie.spec
     put-two-requires
+    add-put-two
     put-two-requires-2
+    add-put-two-2
     put-two-requires-3
+    add-put-two-3
     put-two-requires-4
     same-length
     returns)
