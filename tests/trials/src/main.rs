@@ -1,9 +1,12 @@
-//! Compares the desk's exports with the second evaluator, byte for byte. `bench` and `speed` take times instead, and
-//! `stack` tries an evaluation in so many KiB of stack.
+//! Compares the desk's exports and the printing program with the second evaluator, byte for byte, and the lines of the
+//! library's examples with those wanted. `bench` and `speed` take times instead, and `stack` tries an evaluation in so
+//! many KiB of stack.
 
 mod bench;
 mod desk;
 mod evaluations;
+mod examples;
+mod prints;
 mod rules;
 mod speed;
 mod stack;
@@ -19,7 +22,9 @@ fn main() {
         ["stack", kibibytes] => return stack::run(kibibytes.parse().expect("a number")),
         _ => {}
     }
-    let tally = trials::all();
+    let mut tally = trials::all();
+    examples::all(&mut tally);
+    prints::all(&mut tally);
     println!(
         "trials: {} comparisons, {} differences",
         tally.comparisons, tally.differences

@@ -1,0 +1,156 @@
+//! The library's functions over slices, as `include/desk.h` documents them: each answers 0 or the number of a refusal.
+
+mod c {
+    extern "C" {
+        pub fn desk_open(
+            inputs: *const u8,
+            inputs_len: usize,
+            table: *mut u8,
+            table_len: usize,
+            session: *mut u8,
+            session_len: usize,
+        ) -> u8;
+        pub fn desk_rule_refusal(rule: *const u8, rule_len: usize) -> u8;
+        pub fn desk_fits(
+            session: *const u8,
+            session_len: usize,
+            table: *const u8,
+            table_len: usize,
+        ) -> u8;
+        pub fn desk_evaluate(
+            session: *mut u8,
+            session_len: usize,
+            table: *mut u8,
+            table_len: usize,
+            rule: *const u8,
+            rule_len: usize,
+            allowance: u16,
+            answer: *mut u8,
+            answer_len: usize,
+        ) -> u8;
+        pub fn desk_read(
+            session: *const u8,
+            session_len: usize,
+            table: *const u8,
+            table_len: usize,
+            numbers: *const u8,
+            numbers_len: usize,
+            result: *const u8,
+            result_len: usize,
+            work: *mut u32,
+            work_len: usize,
+            reading: *mut u8,
+            reading_len: usize,
+        ) -> u8;
+        pub fn desk_run(
+            inputs: *const u8,
+            inputs_len: usize,
+            numbers: *const u8,
+            numbers_len: usize,
+            rule: *const u8,
+            rule_len: usize,
+            allowance: u16,
+            store: *mut u8,
+            store_len: usize,
+            reading: *mut u8,
+            reading_len: usize,
+        ) -> u8;
+    }
+}
+
+// Each call below is safe: the library asks only for slices that are there and do not overlap where it writes, which is
+// what `&[u8]` and `&mut [u8]` are.
+
+pub fn open(inputs: &[u8], table: &mut [u8], session: &mut [u8]) -> u8 {
+    unsafe {
+        c::desk_open(
+            inputs.as_ptr(),
+            inputs.len(),
+            table.as_mut_ptr(),
+            table.len(),
+            session.as_mut_ptr(),
+            session.len(),
+        )
+    }
+}
+
+pub fn rule_refusal(rule: &[u8]) -> u8 {
+    unsafe { c::desk_rule_refusal(rule.as_ptr(), rule.len()) }
+}
+
+pub fn fits(session: &[u8], table: &[u8]) -> u8 {
+    unsafe { c::desk_fits(session.as_ptr(), session.len(), table.as_ptr(), table.len()) }
+}
+
+pub fn evaluate(
+    session: &mut [u8],
+    table: &mut [u8],
+    rule: &[u8],
+    allowance: u16,
+    answer: &mut [u8],
+) -> u8 {
+    unsafe {
+        c::desk_evaluate(
+            session.as_mut_ptr(),
+            session.len(),
+            table.as_mut_ptr(),
+            table.len(),
+            rule.as_ptr(),
+            rule.len(),
+            allowance,
+            answer.as_mut_ptr(),
+            answer.len(),
+        )
+    }
+}
+
+pub fn read(
+    session: &[u8],
+    table: &[u8],
+    numbers: &[u8],
+    result: &[u8],
+    work: &mut [u32],
+    reading: &mut [u8],
+) -> u8 {
+    unsafe {
+        c::desk_read(
+            session.as_ptr(),
+            session.len(),
+            table.as_ptr(),
+            table.len(),
+            numbers.as_ptr(),
+            numbers.len(),
+            result.as_ptr(),
+            result.len(),
+            work.as_mut_ptr(),
+            work.len(),
+            reading.as_mut_ptr(),
+            reading.len(),
+        )
+    }
+}
+
+pub fn run(
+    inputs: &[u8],
+    numbers: &[u8],
+    rule: &[u8],
+    allowance: u16,
+    store: &mut [u8],
+    reading: &mut [u8],
+) -> u8 {
+    unsafe {
+        c::desk_run(
+            inputs.as_ptr(),
+            inputs.len(),
+            numbers.as_ptr(),
+            numbers.len(),
+            rule.as_ptr(),
+            rule.len(),
+            allowance,
+            store.as_mut_ptr(),
+            store.len(),
+            reading.as_mut_ptr(),
+            reading.len(),
+        )
+    }
+}

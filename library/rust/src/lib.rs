@@ -1,0 +1,203 @@
+//! The desk for Rust: a session over a table, the rules that are evaluated in it, the readings of their results under
+//! sixteen numbers, and plain runs. Byte forms stay inside; `exports` has the functions over them.
+
+pub mod exports;
+
+const SESSION: usize = 74;
+const COUNT: usize = 64;
+
+/// An input of a session.
+#[derive(Clone, Copy, Debug, PartialEq, Eq)]
+pub enum Input {
+    ConstantTruth(bool),
+    ConstantWord(u16),
+    FreeTruth,
+    FreeWord,
+}
+
+/// Refused, by document 01's number.
+#[derive(Clone, Copy, Debug, PartialEq, Eq)]
+pub struct Refusal(pub u8);
+
+/// What evaluating a rule gave: S, T and the value are numbers of terms, and the depth is the smallest allowance that
+/// gives this.
+#[derive(Clone, Copy, Debug, PartialEq, Eq)]
+pub enum Answer {
+    Out {
+        assumed: u16,
+        asserted: u16,
+        value: u16,
+        depth: u16,
+    },
+    Halt {
+        assumed: u16,
+        asserted: u16,
+        depth: u16,
+    },
+}
+
+/// What a result reads as, or a rule comes to; a procedure is told by its record's number.
+#[derive(Clone, Copy, Debug, PartialEq, Eq)]
+pub enum Reading {
+    Truth(bool),
+    Word(u16),
+    Procedure(u16),
+    Abort,
+    Error,
+}
+
+/// A session and its table.
+#[derive(Clone, Debug, PartialEq, Eq)]
+pub struct Desk {
+    session: [u8; SESSION],
+    table: Vec<u8>,
+}
+
+impl Desk {
+    /// Opens a session over a table of so many bytes.
+    pub fn open(inputs: &[Input; 16], table_bytes: usize) -> Result<Desk, Refusal> {
+        let (mut session, mut table) = ([0; SESSION], vec![0; table_bytes]);
+        accepted(exports::open(
+            &inputs_bytes(inputs),
+            &mut table,
+            &mut session,
+        ))?;
+        Ok(Desk { session, table })
+    }
+
+    /// Evaluates a rule; a refused one changes nothing.
+    pub fn evaluate(&mut self, rule: &[u8], allowance: u16) -> Result<Answer, Refusal> {
+        let mut form = [0; 10];
+        accepted(exports::evaluate(
+            &mut self.session,
+            &mut self.table,
+            rule,
+            allowance,
+            &mut form,
+        ))?;
+        let [assumed, asserted, value, depth] = [2, 4, 6, 8].map(|at| two(&form, at));
+        Ok(if form[0] == 1 {
+            Answer::Halt {
+                assumed,
+                asserted,
+                depth,
+            }
+        } else {
+            Answer::Out {
+                assumed,
+                asserted,
+                value,
+                depth,
+            }
+        })
+    }
+
+    /// Reads an answer under sixteen numbers.
+    pub fn read(&self, answer: Answer, numbers: &[u16; 16]) -> Result<Reading, Refusal> {
+        let (assumed, asserted, value, halted) = match answer {
+            Answer::Out {
+                assumed,
+                asserted,
+                value,
+                ..
+            } => (assumed, asserted, value, false),
+            Answer::Halt {
+                assumed, asserted, ..
+            } => (assumed, asserted, 0, true),
+        };
+        let mut result = pairs(&[assumed, asserted, value]);
+        result.extend([u8::from(halted), 0]);
+        let mut work = vec![0; usize::from(self.count())];
+        let mut form = [0; 4];
+        accepted(exports::read(
+            &self.session,
+            &self.table,
+            &pairs(numbers),
+            &result,
+            &mut work,
+            &mut form,
+        ))?;
+        Ok(reading(form))
+    }
+
+    /// How many terms the table holds.
+    pub fn count(&self) -> u16 {
+        two(&self.session, COUNT)
+    }
+
+    /// Term i: kind, op, a, b, c; nothing where there is none.
+    pub fn term(&self, i: u16) -> Option<[u16; 5]> {
+        if i >= self.count() {
+            return None;
+        }
+        let record = &self.table[8 * usize::from(i)..];
+        let [kind, op] = [record[0], record[1]].map(u16::from);
+        Some([kind, op, two(record, 2), two(record, 4), two(record, 6)])
+    }
+}
+
+/// The first of the tests of a rule alone that refuses it.
+pub fn test_rule(rule: &[u8]) -> Result<(), Refusal> {
+    accepted(exports::rule_refusal(rule))
+}
+
+/// Runs a rule plainly under sixteen numbers, with a store of so many places.
+pub fn run(
+    inputs: &[Input; 16],
+    numbers: &[u16; 16],
+    rule: &[u8],
+    allowance: u16,
+    places: usize,
+) -> Result<Reading, Refusal> {
+    let (mut store, mut form) = (vec![0; 8 * places], [0; 4]);
+    accepted(exports::run(
+        &inputs_bytes(inputs),
+        &pairs(numbers),
+        rule,
+        allowance,
+        &mut store,
+        &mut form,
+    ))?;
+    Ok(reading(form))
+}
+
+fn accepted(answer: u8) -> Result<(), Refusal> {
+    match answer {
+        0 => Ok(()),
+        refusal => Err(Refusal(refusal)),
+    }
+}
+
+fn inputs_bytes(inputs: &[Input; 16]) -> Vec<u8> {
+    let mut bytes = Vec::new();
+    for input in inputs {
+        let (kind, value) = match *input {
+            Input::ConstantTruth(truth) => (0, u16::from(truth)),
+            Input::ConstantWord(word) => (1, word),
+            Input::FreeTruth => (2, 0),
+            Input::FreeWord => (3, 0),
+        };
+        bytes.extend([kind, 0]);
+        bytes.extend(value.to_le_bytes());
+    }
+    bytes
+}
+
+fn pairs(numbers: &[u16]) -> Vec<u8> {
+    numbers.iter().flat_map(|n| n.to_le_bytes()).collect()
+}
+
+fn two(bytes: &[u8], at: usize) -> u16 {
+    u16::from_le_bytes([bytes[at], bytes[at + 1]])
+}
+
+fn reading(form: [u8; 4]) -> Reading {
+    let number = two(&form, 2);
+    match form[0] {
+        0 => Reading::Truth(number == 1),
+        1 => Reading::Word(number),
+        2 => Reading::Procedure(number),
+        3 => Reading::Abort,
+        _ => Reading::Error,
+    }
+}
