@@ -23,7 +23,7 @@ use Rattle.semantics.specs.Evaluate.{refusedBy, haltedAgain, left, evaluated, b
 use Rattle.typing.proofs.Steps.{Post, did, not-did}
 use Rattle.typing.proofs.Evaluation.{eval-does}
 use Rattle.sessions.proofs.Facts.{fitting}
-use Rattle.sessions.proofs.Ruled.{ruled}
+use Rattle.typing.proofs.Ruled.{ruled}
 use Rattle.print.specs.Appends.{Told}
 
 answer-told : (r : Result) (d n : ℕ) → n ≤ termLimit → Told (answerOf r d) n
