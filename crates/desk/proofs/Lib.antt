@@ -1,4 +1,3 @@
 mod Taken
 mod Written
 mod Answers
-pub mod Kept
