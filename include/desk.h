@@ -4,7 +4,7 @@
  * that the address is not null and holds so many, that a work list is aligned for uint32_t, and that nothing written
  * (not const) overlaps another slice of the same call. Nothing else is asked of a caller: every length and every byte
  * is taken or refused. A call keeps no address and uses no memory but what is lent and the stack; an evaluation at the
- * largest depth takes up to 1.3 MiB of it.
+ * largest depth takes up to 0.7 MiB of it.
  *
  * Each function answers 0, or the number of the refusal that came first. What is lent to a refused call is left as it
  * was, except that work list and store are zero on every return. Document 01 has the numbers:
