@@ -23,9 +23,9 @@ use Rattle.semantics.specs.Evaluate.{evaluateOf}
 use Rattle.semantics.specs.Reading.{readOf}
 use Rattle.semantics.specs.PlainRun.{runPlainlyOf}
 use Rattle.rules.proofs.Follow.{and-both}
-use Rattle.desk.specs.Forms.{inputsIn, inputsFormed, numbersIn, sessionIn, sessionFormed, resultIn, sessionBytes}
+use Rattle.forms.specs.Forms.{inputsIn, inputsFormed, numbersIn, sessionIn, sessionFormed, resultIn, sessionBytes}
 use Rattle.desk.specs.Exports.{deskOpen, deskFits, evaluatedForm, deskEvaluate, outcomeForm, outcomeForms, readUnformed, deskRead, runUnformed, deskRun}
-use Rattle.desk.proofs.Written.{put-whole}
+use Rattle.forms.proofs.Written.{put-whole}
 
 -- ---- a length that is tested
 module _ {A : Type 0} (x y : A) {z : A} (i j : ℕ) where

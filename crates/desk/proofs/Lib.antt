@@ -1,3 +1,1 @@
-mod Taken
-mod Written
 mod Answers

@@ -19,7 +19,7 @@ use Rattle.semantics.specs.Fits.{fitsOf}
 use Rattle.semantics.specs.Evaluate.{evaluateOf}
 use Rattle.semantics.specs.Reading.{readOf}
 use Rattle.semantics.specs.PlainRun.{runPlainlyOf}
-use Rattle.desk.specs.Forms.{sessionLength, numbersLength, answerLength, readingLength, inputsIn, inputsFormed, numbersIn, sessionIn, sessionFormed, resultIn, resultFormed, sessionBytes, answerBytes, readingBytes, aTruth, aWord, aProcedure, anAbort, anError}
+use Rattle.forms.specs.Forms.{sessionLength, numbersLength, answerLength, readingLength, inputsIn, inputsFormed, numbersIn, sessionIn, sessionFormed, resultIn, resultFormed, sessionBytes, answerBytes, readingBytes, aTruth, aWord, aProcedure, anAbort, anError}
 
 -- ---- desk_open: the answer, the table and the session's place then
 

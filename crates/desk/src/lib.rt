@@ -19,10 +19,10 @@ ghost use mathlib.Core.List.{List};
 ghost use Prim.Native.Nat.{ℕ};
 ghost use lib.ListN.{length};
 ghost use Rattle.semantics.specs.Rules.{ruleRefusalOf};
-ghost use Rattle.desk.specs.Forms.{sessionBytes, answerBytes, readingBytes};
+ghost use Rattle.forms.specs.Forms.{sessionBytes, answerBytes, readingBytes};
 ghost use Rattle.desk.specs.Exports.{deskOpen, deskFits, evaluatedForm, deskEvaluate, outcomeForm, readUnformed, deskRead, runUnformed, deskRun};
 
-mod forms;
+
 
 // What a reading's first byte says.
 const A_TRUTH: u8 = 0;

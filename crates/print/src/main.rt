@@ -22,7 +22,7 @@ ghost use Rattle.print.specs.Appends.{lineBytes, Appends, Writes, Told};
 const ALLOWANCE: u16 = 100;
 
 // One byte more than the inputs and the longest rule take: the rest of a longer input makes no difference.
-const INPUT: usize = inputs::BYTES + numbers::RULE_BYTES + 1;
+const INPUT: usize = forms::INPUTS + numbers::RULE_BYTES + 1;
 
 // The longest line: six numbers of five digits, each with a byte after it.
 const LINE: usize = 36;
@@ -103,7 +103,7 @@ pub fn printed(input: &[u8], out: &mut [u8; OUTPUT]) -> usize
         return put_refusal(out, o.refusal);
     }
     let session = o.session;
-    put_evaluation(out, session, &mut table, &input[inputs::BYTES..])
+    put_evaluation(out, session, &mut table, &input[forms::INPUTS..])
 }
 
 fn main() {

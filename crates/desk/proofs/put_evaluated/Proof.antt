@@ -1,7 +1,7 @@
 -- `desk::put_evaluated` meets its contract. Assumes nothing.
 use borrow.Author.Needs.{needs}
 use mathlib.Core.Path.{sym, _∙_}
-use Rattle.desk.proofs.Written.{put-whole}
+use Rattle.forms.proofs.Written.{put-whole}
 use Rattle.desk.proofs.put_evaluated.Statement.{statement}
 use Rattle.desk.proofs.put_evaluated.Tie as tie
 

@@ -1,6 +1,6 @@
 -- `desk::put_reading` meets its contract. Assumes nothing.
 use borrow.Author.Needs.{needs}
-use Rattle.desk.proofs.Written.{put-whole}
+use Rattle.forms.proofs.Written.{put-whole}
 use Rattle.desk.proofs.put_reading.Statement.{statement}
 use Rattle.desk.proofs.put_reading.Tie as tie
 

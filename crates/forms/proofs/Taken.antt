@@ -1,0 +1,73 @@
+-- What is read from the byte forms, one element at a time. Assumes nothing.
+use mathlib.Core.Path.{_≡_, refl, sym, _∙_}
+use mathlib.Core.Bool.{Bool, true, false}
+use mathlib.Core.List.{List}
+use Prim.Native.Nat.{ℕ, _+_, _*_, _<_, _≤_}
+use native.Mathlib.Numerals.{add-one}
+use native.Mathlib.Omega.{arith}
+use lib.Dec.{eqb}
+use lib.ListN.{getD, set, take, length}
+use lib.Seq.{take-all, take-suc-set}
+use borrow.Author.Tests.{eq-eqb, ne-eqb, lt-ltb, le-ltb}
+use Rattle.semantics.specs.declared.Input.{Input}
+use Rattle.semantics.specs.Records.{pairAt}
+use Rattle.semantics.specs.Rules.{upTo}
+use Rattle.semantics.specs.Print.{inputAt}
+use Rattle.rules.proofs.Follow.{up-next, up-stop, up-end}
+use Rattle.forms.specs.Forms.{eachBelow, inputsIn, inputsZeroed, numbersIn, markFormed, sessionIn}
+
+-- ---- an array that is filled from its first place on
+
+module _ {A : Type 0} (f : ℕ → A) (l : List A) (i : ℕ) where
+  pub each-start : take 0 l ≡ eachBelow f 0
+  unfolding eachBelow
+  each-start = refl
+
+  pub each-more : i < length l → take i l ≡ eachBelow f i → {v : A} → v ≡ f i → take (i + 1) (set l i v) ≡ eachBelow f (i + 1)
+  unfolding eachBelow
+  each-more h e {v} g = rw (add-one, take-suc-set l i v h, e, g, eachBelow)
+
+  each-all : length l ≡ 16 → i ≤ 16 → 16 ≤ i → take i l ≡ eachBelow f i → l ≡ eachBelow f 16
+  each-all long low high e = let q : i ≡ 16 = omega arith in sym (take-all i l (omega arith)) ∙ e ∙ rw q
+
+-- sixteen inputs, and sixteen numbers
+pub inputs-all : (s : List ℕ) (l : List Input) (i : ℕ) → length l ≡ 16 → i ≤ 16 → 16 ≤ i → take i l ≡ eachBelow (inputAt s) i → l ≡ inputsIn s
+unfolding inputsIn
+inputs-all s = each-all (inputAt s)
+
+pub numbers-all : (s l : List ℕ) (i : ℕ) → length l ≡ 16 → i ≤ 16 → 16 ≤ i → take i l ≡ eachBelow (λ j. pairAt s (2 * j)) i → l ≡ numbersIn s
+unfolding numbersIn
+numbers-all s = each-all (λ j. pairAt s (2 * j))
+
+-- ---- the zeros after the inputs' kinds
+module _ (s : List ℕ) where
+  abbrev pub zeroAfter : ℕ → Bool
+  zeroAfter i = eqb (getD s (4 * i + 1) 0) 0
+
+  module _ (i : ℕ) {b : ℕ} (e : b ≡ getD s (4 * i + 1) 0) where
+    pub zeroed-miss : i < 16 → (b ≡ 0 → ⊥) → false ≡ inputsZeroed s
+    unfolding inputsZeroed
+    zeroed-miss h n = up-stop zeroAfter i 16 h (rw (← e) (ne-eqb b 0 n))
+
+    pub zeroed-more : upTo i zeroAfter ≡ true → b ≡ 0 → upTo (i + 1) zeroAfter ≡ true
+    zeroed-more h z = up-next zeroAfter i h (rw (← e) (eq-eqb b 0 z))
+
+  pub zeroed-all : (i : ℕ) → upTo i zeroAfter ≡ true → i ≤ 16 → 16 ≤ i → true ≡ inputsZeroed s
+  unfolding inputsZeroed
+  zeroed-all i = up-end zeroAfter i 16
+
+-- ---- a halted mark
+module _ (s : List ℕ) (i : ℕ) {a : ℕ} (ea : a ≡ getD s i 0) where
+  pub mark-low : a < 2 → {b : ℕ} → b ≡ getD s (i + 1) 0 → eqb b 0 ≡ markFormed s i
+  unfolding markFormed
+  mark-low h eb = rw (← ea, lt-ltb a 2 h, eb)
+
+  pub mark-high : 2 ≤ a → false ≡ markFormed s i
+  unfolding markFormed
+  mark-high h = rw (← ea, le-ltb a 2 h)
+
+-- ---- a session
+pub session-taken : (s : List ℕ) {xs : List Input} → xs ≡ inputsIn s → {count assumed asserted accepted : ℕ} → count ≡ pairAt s 64 → assumed ≡ pairAt s 66 → asserted ≡ pairAt s 68 → accepted ≡ pairAt s 70
+    → {m : ℕ} → m ≡ getD s 72 0 → record { inputs = xs; count = count; state = record { assumed = assumed; asserted = asserted }; halted = eqb m 1; accepted = accepted } ≡ sessionIn s
+unfolding sessionIn
+session-taken s exs ec es et ea em = rw (exs, ec, es, et, ea, em)

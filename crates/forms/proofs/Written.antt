@@ -1,0 +1,92 @@
+-- What stands in a slice after bytes are stored one after another. Assumes nothing.
+use mathlib.Core.Path.{_≡_, refl, sym, ap, _∙_}
+use mathlib.Core.List.{List, [], _∷_, _++_, append-nil}
+use Prim.Native.Nat.{ℕ, suc, _+_, _*_, _/_, _%_, _<_, _≤_}
+use native.Mathlib.Numerals.{add-one}
+use native.Mathlib.Omega.{arith}
+use lib.ListN.{getD, set, take, length, length-append, drop-of-length-le}
+use lib.Seq.{sets, sets-eq, set-out, take-suc, take-all, length-take-le}
+use Rattle.notation.specs.Notation.{bit}
+use Rattle.semantics.specs.declared.Input.{Input}
+use Rattle.semantics.specs.declared.Session.{Session}
+use Rattle.forms.specs.Forms.{pairsOf, inputBytes, inputsBytes, sessionBytes}
+
+-- a store past the end of a list
+pub put-past : (s : List ℕ) (i v : ℕ) → length s ≤ i → s ≡ set s i v
+put-past s i v h = sym (set-out s i v h)
+
+-- a list of the length of what is stored is that
+sets-whole : (s vs : List ℕ) → length s ≡ length vs → sets s 0 vs ≡ vs
+sets-whole s vs h = sets-eq vs s 0 (omega arith) ∙ rw (drop-of-length-le s {i = 0 + length vs} (omega arith)) (append-nil vs)
+
+pub put-whole : (s vs : List ℕ) → length s ≡ length vs → {y : List ℕ} → y ≡ sets s 0 vs → y ≡ vs
+put-whole s vs h e = e ∙ sets-whole s vs h
+
+-- stores that go on where others ended
+sets-then : (vs ws s : List ℕ) (i j : ℕ) → j ≡ i + length vs → sets (sets s i vs) j ws ≡ sets s i (vs ++ ws)
+sets-then [] ws s i j e = let q : j ≡ i = omega arith in rw q
+sets-then (v ∷ vs) ws s i j e = sets-then vs ws (set s i v) (suc i) j (omega arith)
+
+pub put-pair : (s : List ℕ) (i v : ℕ) {y z : List ℕ} → y ≡ set s i (v % 256) → z ≡ set y (i + 1) (v / 256) → z ≡ sets s i (pairsOf (v ∷ []))
+put-pair s i v ey ez = ez ∙ rw (ey, add-one)
+
+pub put-four : (s : List ℕ) (i a b c d : ℕ) {w x y z : List ℕ} → w ≡ sets s i (pairsOf (a ∷ [])) → x ≡ sets w (i + 2) (pairsOf (b ∷ [])) → y ≡ sets x (i + 4) (pairsOf (c ∷ []))
+    → z ≡ sets y (i + 6) (pairsOf (d ∷ [])) → z ≡ sets s i (pairsOf (a ∷ b ∷ c ∷ d ∷ []))
+put-four s i a b c d ew ex ey ez =
+    let two : i + 2 ≡ suc (suc i) = omega arith in
+    let four : i + 4 ≡ suc (suc (suc (suc i))) = omega arith in
+    let six : i + 6 ≡ suc (suc (suc (suc (suc (suc i))))) = omega arith in
+    ez ∙ rw (ey, ex, ew, two, four, six)
+
+-- a byte, a zero and what follows them
+module _ (s : List ℕ) (i b : ℕ) (vs : List ℕ) {y z w : List ℕ} where
+  pub put-tagged : y ≡ set s i b → z ≡ set y (i + 1) 0 → w ≡ sets z (i + 2) vs → w ≡ sets s i (b ∷ 0 ∷ vs)
+  put-tagged ey ez ew = let q : i + 2 ≡ suc (suc i) = omega arith in ew ∙ rw (ez, ey, add-one, q)
+
+  -- where the byte is the answer of a call
+  pub put-marked : {k : ℕ} → k ≡ b → y ≡ set s i k → z ≡ set y (i + 1) 0 → w ≡ sets z (i + 2) vs → w ≡ sets s i (b ∷ 0 ∷ vs)
+  put-marked ek ey = put-tagged (ey ∙ rw ek)
+
+-- ---- inputs
+inputs-length : (xs : List Input) → length (inputsBytes xs) ≡ 4 * length xs
+unfolding inputsBytes
+inputs-length [] = refl
+inputs-length (x ∷ xs) = let e = inputs-length xs in omega arith
+
+inputs-append : (xs ys : List Input) → inputsBytes (xs ++ ys) ≡ inputsBytes xs ++ inputsBytes ys
+unfolding inputsBytes
+inputs-append [] ys = refl
+inputs-append (x ∷ xs) ys = ap (λ (l : List ℕ). inputBytes x ++ l) (inputs-append xs ys)
+
+pub inputs-long : (xs : List Input) → length xs ≡ 16 → length (inputsBytes xs) ≡ 64
+inputs-long xs long = inputs-length xs ∙ rw long
+
+-- the inputs before i, and input i
+module _ (s₀ : List ℕ) (xs : List Input) (i : ℕ) where
+  pub inputs-none : s₀ ≡ sets s₀ 0 (inputsBytes (take 0 xs))
+  unfolding inputsBytes
+  inputs-none = refl
+
+  pub inputs-more : i < length xs → {s : List ℕ} → s ≡ sets s₀ 0 (inputsBytes (take i xs)) → (d : Input) {y : List ℕ} → y ≡ sets s (4 * i) (inputBytes (getD xs i d))
+      → y ≡ sets s₀ 0 (inputsBytes (take (i + 1) xs))
+  unfolding inputsBytes
+  inputs-more h es d ey =
+      let long : 4 * i ≡ 0 + length (inputsBytes (take i xs)) = rw (inputs-length, length-take-le i xs (omega arith)) (omega arith) in
+      let bytes : inputsBytes (take (i + 1) xs) ≡ inputsBytes (take i xs) ++ inputBytes (getD xs i d) = rw (add-one, take-suc xs i d h, inputs-append) (simp append-nil) in
+      ey ∙ rw (es, bytes) (sets-then (inputsBytes (take i xs)) (inputBytes (getD xs i d)) s₀ 0 (4 * i) long)
+
+  pub inputs-done : length xs ≡ 16 → 16 ≤ i → {s : List ℕ} → s ≡ sets s₀ 0 (inputsBytes (take i xs)) → s ≡ sets s₀ 0 (inputsBytes xs)
+  inputs-done long h es = es ∙ rw (take-all i xs (omega arith))
+
+-- ---- a session
+module _ (x : Session) (long : length (inputsBytes (x .inputs)) ≡ 64) where
+  pub session-length : length (sessionBytes x) ≡ 74
+  unfolding sessionBytes
+  session-length = length-append (inputsBytes (x .inputs)) _ ∙ rw long
+
+  pub put-session : (s : List ℕ) {a b c d : List ℕ} → a ≡ sets s 0 (inputsBytes (x .inputs)) → b ≡ sets a 64 (pairsOf (x .count ∷ x .state .assumed ∷ x .state .asserted ∷ x .accepted ∷ []))
+      → {h : ℕ} → h ≡ bit (x .halted) → c ≡ set b 72 h → d ≡ set c 73 0 → d ≡ sets s 0 (sessionBytes x)
+  unfolding sessionBytes
+  put-session s ea eb eh ec ed =
+      let rest : List ℕ = pairsOf (x .count ∷ x .state .assumed ∷ x .state .asserted ∷ x .accepted ∷ []) ++ (bit (x .halted) ∷ 0 ∷ []) in
+      ed ∙ rw (ec, eb, ea, eh) (sets-then (inputsBytes (x .inputs)) rest s 0 64 (rw long))

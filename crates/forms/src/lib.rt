@@ -1,0 +1,244 @@
+// The byte forms, read from a slice and written to one. What stands past a slice's end reads as 0 and is not written,
+// so that no function has a `requires`.
+use semantics::Input;
+use semantics::Result;
+use semantics::Session;
+use semantics::State;
+ghost use mathlib.Core.Path.{_≡_};
+ghost use mathlib.Core.List.{[], _∷_};
+ghost use Prim.Native.Nat.{_+_, _*_};
+ghost use lib.ListN.{length, set};
+ghost use lib.Seq.{sets};
+ghost use Rattle.notation.specs.Notation.{bit};
+ghost use Rattle.semantics.specs.Records.{pairAt};
+ghost use Rattle.semantics.specs.Print.{inputAt};
+ghost use Rattle.forms.specs.Forms.{inputsIn, inputsZeroed, inputsFormed, numbersIn, markFormed, sessionIn, sessionFormed, resultIn, resultFormed, pairsOf, inputBytes, inputsBytes, sessionBytes, answerBytes, readingBytes};
+
+pub const INPUTS: usize = 64;
+
+pub const SESSION: usize = 74;
+
+pub const NUMBERS: usize = 32;
+
+pub const RESULT: usize = 8;
+
+pub const ANSWER: usize = 10;
+
+pub const READING: usize = 4;
+
+fn pair(low: u8, high: u8) -> u16
+    ensures { λ r. ⌜ r ≡ low + 256 * high ⌝ }
+{
+    (low as u16) + 256 * (high as u16)
+}
+
+// The number of the two bytes at a position.
+fn two(s: &[u8], at: u16) -> u16
+    ensures { λ r. ⌜ r ≡ pairAt (now (s .entry)) at ⌝ }
+{
+    let i = at as usize;
+    pair(records::byte(s, i), records::byte(s, i + 1))
+}
+
+fn input_in(s: &[u8], i: u8) -> Input
+    ensures { λ r. ⌜ r ≡ inputAt (now (s .entry)) i ⌝ }
+{
+    let at = 4 * (i as u16);
+    Input {
+        kind: records::byte(s, at as usize),
+        value: two(s, at + 2),
+    }
+}
+
+pub fn inputs_in(s: &[u8]) -> [Input; 16]
+    ensures { λ r. ⌜ r ≡ inputsIn (now (s .entry)) ⌝ }
+{
+    let mut inputs = [Input { kind: 0, value: 0 }; 16];
+    let mut i: u8 = 0;
+    while i < 16 {
+        inputs[i as usize] = input_in(s, i);
+        i += 1;
+    }
+    inputs
+}
+
+pub fn numbers_in(s: &[u8]) -> [u16; 16]
+    ensures { λ r. ⌜ r ≡ numbersIn (now (s .entry)) ⌝ }
+{
+    let mut numbers: [u16; 16] = [0; 16];
+    let mut i: u16 = 0;
+    while i < 16 {
+        numbers[i as usize] = two(s, 2 * i);
+        i += 1;
+    }
+    numbers
+}
+
+// Whether the second byte of each of the 16 inputs is zero.
+pub fn inputs_zeroed(s: &[u8]) -> bool
+    ensures { λ r. ⌜ r ≡ inputsZeroed (now (s .entry)) ⌝ }
+{
+    let mut i: usize = 0;
+    while i < 16 {
+        if records::byte(s, 4 * i + 1) != 0 {
+            return false;
+        }
+        i += 1;
+    }
+    true
+}
+
+pub fn inputs_formed(s: &[u8]) -> bool
+    ensures { λ r. ⌜ r ≡ inputsFormed (now (s .entry)) ⌝ }
+{
+    if s.len() == INPUTS {
+        inputs_zeroed(s)
+    } else {
+        false
+    }
+}
+
+// A mark that is 0 or 1, and a zero after it.
+fn mark_formed(s: &[u8], at: u16) -> bool
+    ensures { λ r. ⌜ r ≡ markFormed (now (s .entry)) at ⌝ }
+{
+    let i = at as usize;
+    if records::byte(s, i) < 2 {
+        records::byte(s, i + 1) == 0
+    } else {
+        false
+    }
+}
+
+pub fn session_formed(s: &[u8]) -> bool
+    ensures { λ r. ⌜ r ≡ sessionFormed (now (s .entry)) ⌝ }
+{
+    if s.len() == SESSION {
+        if inputs_zeroed(s) {
+            mark_formed(s, 72)
+        } else {
+            false
+        }
+    } else {
+        false
+    }
+}
+
+pub fn result_formed(s: &[u8]) -> bool
+    ensures { λ r. ⌜ r ≡ resultFormed (now (s .entry)) ⌝ }
+{
+    if s.len() == RESULT {
+        mark_formed(s, 6)
+    } else {
+        false
+    }
+}
+
+pub fn session_in(s: &[u8]) -> Session
+    ensures { λ r. ⌜ r ≡ sessionIn (now (s .entry)) ⌝ }
+{
+    Session {
+        inputs: inputs_in(s),
+        count: two(s, 64),
+        state: State {
+            assumed: two(s, 66),
+            asserted: two(s, 68),
+        },
+        halted: records::byte(s, 72) == 1,
+        accepted: two(s, 70),
+    }
+}
+
+pub fn result_in(s: &[u8]) -> Result
+    ensures { λ r. ⌜ r ≡ resultIn (now (s .entry)) ⌝ }
+{
+    Result {
+        state: State {
+            assumed: two(s, 0),
+            asserted: two(s, 2),
+        },
+        value: two(s, 4),
+        halted: records::byte(s, 6) == 1,
+    }
+}
+
+// Stores a byte; past the end nothing.
+fn put(s: &mut [u8], at: usize, v: u8)
+    ensures { λ _. ⌜ now (s .exit) ≡ set (now (s .entry)) at v ⌝ }
+{
+    if at < s.len() {
+        s[at] = v;
+    }
+}
+
+fn put_two(s: &mut [u8], at: u16, v: u16)
+    ensures { λ _. ⌜ now (s .exit) ≡ sets (now (s .entry)) at (pairsOf (v ∷ [])) ⌝ }
+{
+    let i = at as usize;
+    put(s, i, (v % 256) as u8);
+    put(s, i + 1, (v / 256) as u8);
+}
+
+// Four numbers of two bytes each.
+fn put_four(s: &mut [u8], at: u8, a: u16, b: u16, c: u16, d: u16)
+    ensures { λ _. ⌜ now (s .exit) ≡ sets (now (s .entry)) at (pairsOf (a ∷ b ∷ c ∷ d ∷ [])) ⌝ }
+{
+    let i = at as u16;
+    put_two(s, i, a);
+    put_two(s, i + 2, b);
+    put_two(s, i + 4, c);
+    put_two(s, i + 6, d);
+}
+
+pub fn bit_of(b: bool) -> u8
+    ensures { λ r. ⌜ r ≡ bit b ⌝ }
+{
+    if b { 1 } else { 0 }
+}
+
+fn put_input(s: &mut [u8], i: u8, x: Input)
+    ensures { λ _. ⌜ now (s .exit) ≡ sets (now (s .entry)) (4 * i) (inputBytes x) ⌝ }
+{
+    let at = 4 * (i as u16);
+    put(s, at as usize, x.kind);
+    put(s, (at as usize) + 1, 0);
+    put_two(s, at + 2, x.value);
+}
+
+fn put_inputs(s: &mut [u8], inputs: [Input; 16])
+    ensures { λ _. ⌜ (length (inputsBytes inputs) ≡ 64) × (now (s .exit) ≡ sets (now (s .entry)) 0 (inputsBytes inputs)) ⌝ }
+{
+    let mut i: u8 = 0;
+    while i < 16 {
+        put_input(s, i, inputs[i as usize]);
+        i += 1;
+    }
+}
+
+pub fn put_session(s: &mut [u8], x: Session)
+    ensures { λ _. ⌜ (length (sessionBytes x) ≡ 74) × (now (s .exit) ≡ sets (now (s .entry)) 0 (sessionBytes x)) ⌝ }
+{
+    let inputs = x.inputs;
+    let state = x.state;
+    put_inputs(s, inputs);
+    put_four(s, 64, x.count, state.assumed, state.asserted, x.accepted);
+    put(s, 72, bit_of(x.halted));
+    put(s, 73, 0);
+}
+
+pub fn put_answer(s: &mut [u8], halted: bool, x: State, value: u16, depth: u16)
+    ensures { λ _. ⌜ now (s .exit) ≡ sets (now (s .entry)) 0 (answerBytes halted x value depth) ⌝ }
+{
+    put(s, 0, bit_of(halted));
+    put(s, 1, 0);
+    put_four(s, 2, x.assumed, x.asserted, value, depth);
+}
+
+// What was read, and its number.
+pub fn put_tagged(s: &mut [u8], tag: u8, n: u16)
+    ensures { λ _. ⌜ now (s .exit) ≡ sets (now (s .entry)) 0 (readingBytes tag n) ⌝ }
+{
+    put(s, 0, tag);
+    put(s, 1, 0);
+    put_two(s, 2, n);
+}
