@@ -1,6 +1,6 @@
 -- Reading a lent table: each way through the functions that read it, as a law on the definitions (the ruleset `tables`), and a list whose tail
 -- was lent. Assumes nothing.
-use mathlib.Core.Path.{_≡_, refl, ap, _∙_}
+use mathlib.Core.Path.{_≡_, refl, sym, ap, _∙_}
 use mathlib.Core.Bool.{Bool, true, false}
 use mathlib.Core.List.{List, [], _∷_, _++_, append-nil}
 use Prim.Native.Nat.{ℕ, zero, suc, _+_, _-_, _*_, _<_, _≤_}
@@ -66,28 +66,50 @@ module _ (x y : Term) where
   unfolding sameOf
   same-5 a b c d = simp (eq-eqb _ _ a, eq-eqb _ _ b, eq-eqb _ _ c, eq-eqb _ _ d)
 
--- a search of the first i terms that is known to end at z
-module _ (s : List ℕ) (t : Term) (low : ℕ) {z : Found} where
-  pub find-none : (i : ℕ) → findFrom low (termsIn s i) t ≡ z → {w : ℕ} → w ≡ i → w ≤ low → missing ≡ z
+-- a search among the first n terms from i on
+module _ (s : List ℕ) (t : Term) where
+  abbrev found : ℕ → ℕ → Found
+  found n i = findFrom i (termsIn s n) t
+
+  none-left : (n i : ℕ) → n ≤ i → found n i ≡ missing
   unfolding findFrom termsIn
-  find-none zero inv e h = inv
-  find-none (suc i) inv e h = let g : i < low = omega arith in rw (terms-length s i, lt-ltb _ _ g) at inv
+  none-left zero i h = refl
+  none-left (suc n) i h = let g : n < i = omega arith in rw (terms-length s n, lt-ltb _ _ g)
 
-  turn : (i : ℕ) → findFrom low (termsIn s i) t ≡ z → low < i → {x : Term} → x ≡ termAt s (i - 1) → {b : Bool} → b ≡ sameOf x t
-      → pick b (record { is = true; at = i - 1 }) (findFrom low (termsIn s (i - 1)) t) ≡ z
+  -- with term n among them, it may end there
+  one-more : (n i : ℕ) → i ≤ n → found (suc n) i ≡ pick (found n i .is) (found n i) (pick (sameOf (termAt s n) t) (record { is = true; at = n }) missing)
   unfolding findFrom termsIn
-  turn zero inv h ex eb = absurd (omega arith)
-  turn (suc i) inv h ex eb =
-      let u : suc i - 1 ≡ i = omega arith in
-      let g : low ≤ i = omega arith in
-      rw (u, eb, ex, u) (rw (terms-length s i, le-ltb _ _ g) at inv)
+  one-more n i h = rw (terms-length s n, le-ltb _ _ h)
 
-  module _ (i : ℕ) (inv : findFrom low (termsIn s i) t ≡ z) {w : ℕ} (ew : w ≡ i) (h : low < w) {x : Term} (ex : x ≡ termAt s (i - 1)) {b : Bool} (eb : b ≡ sameOf x t) where
-    pub find-found : b ≡ true → record { is = true; at = i - 1 } ≡ z
-    find-found g = rw g at (turn i inv (omega arith) ex eb)
+  -- it ends at term i or goes on from the next
+  turn : (n i : ℕ) → i < n → {b : Bool} → b ≡ sameOf (termAt s i) t → found n i ≡ pick b (record { is = true; at = i }) (found n (i + 1))
+  turn zero i h e = absurd (omega arith)
+  turn (suc n) i h {b} e = go (eqb i n) b refl e (λ l. turn n i l e)
+    where
+      go : (c b : Bool) → eqb i n ≡ c → b ≡ sameOf (termAt s i) t → (i < n → found n i ≡ pick b (record { is = true; at = i }) (found n (i + 1)))
+          → found (suc n) i ≡ pick b (record { is = true; at = i }) (found (suc n) (i + 1))
+      go true b q e r =
+          let w : i ≡ n = eqb-true i n q in
+          rw (one-more n i (omega arith), none-left n i (omega arith), none-left (suc n) (i + 1) (omega arith), e, w)
+      go false true q e r = rw (one-more n i (omega arith), r (omega (arith, eqb-false i n q)))
+      go false false q e r =
+          let l : i < n = omega (arith, eqb-false i n q) in
+          rw (one-more n i (omega arith), one-more n (i + 1) (omega arith), r l)
 
-    pub find-next : b ≡ false → findFrom low (termsIn s (i - 1)) t ≡ z
-    find-next g = rw g at (turn i inv (omega arith) ex eb)
+-- such a search that is known to end at z
+module _ (s : List ℕ) (t : Term) {z : Found} (n i : ℕ) (inv : findFrom i (termsIn s n) t ≡ z) {w : ℕ} (ew : w ≡ n) where
+  pub find-none : w ≤ i → missing ≡ z
+  find-none h = sym (none-left s t n i (omega arith)) ∙ inv
+
+  module _ (h : i < w) {x : Term} (ex : x ≡ termAt s i) {b : Bool} (eb : b ≡ sameOf x t) where
+    turned : pick b (record { is = true; at = i }) (findFrom (i + 1) (termsIn s n) t) ≡ z
+    turned = sym (turn s t n i (omega arith) (eb ∙ ap (λ (y : Term). sameOf y t) ex)) ∙ inv
+
+    pub find-found : b ≡ true → record { is = true; at = i } ≡ z
+    find-found g = rw g at turned
+
+    pub find-next : b ≡ false → findFrom (i + 1) (termsIn s n) t ≡ z
+    find-next g = rw g at turned
 
 -- a part that runs to the end, as it is lent, and come back
 module _ (s : List ℕ) (a : ℕ) where

@@ -1,5 +1,5 @@
--- The search for an equal term as the code makes it: from the newest term down to the largest operand. On a well-formed table it finds
--- what document 01's `findOf` finds, since a term names only lower ones. Assumes nothing.
+-- The search for an equal term as the code makes it: upward from the largest operand to the newest term. On a well-formed table it finds
+-- what document 01's `findOf` finds, since a term names only lower ones and none is repeated. Assumes nothing.
 use Prim.Native.Nat.{ℕ, _+_, max}
 use mathlib.Core.Bool.{true, false}
 use mathlib.Core.List.{List, [], _∷_}
@@ -24,10 +24,13 @@ floorOf t =
 abbrev pub missing : Found
 missing = record { is = false; at = 0 }
 
--- the newest term equal to t among those with numbers from low on
+-- the oldest term equal to t among those with numbers from low on
 unfoldable pub findFrom : ℕ → List Term → Term → Found
 findFrom low [] t = missing
-findFrom low (u ∷ us) t = pick (ltb (length us) low) missing (pick (sameOf u t) (record { is = true; at = length us }) (findFrom low us t))
+findFrom low (u ∷ us) t =
+    let here : Found = record { is = true; at = length us } in
+    let lower : Found = findFrom low us t in
+    pick (ltb (length us) low) missing (pick (lower .is) lower (pick (sameOf u t) here missing))
 
 abbrev pub findAbove : List Term → Term → Found
 findAbove ts t = findFrom (floorOf t) ts t

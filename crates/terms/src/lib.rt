@@ -130,16 +130,15 @@ fn floor(t: Term) -> usize
     }
 }
 
-// The newest term equal to t, searched for down to its largest operand.
+// The oldest term equal to t above its largest operand. It is searched for upward, since it often stands right after
+// that operand.
 pub fn find(table: &[u8], count: u16, t: Term) -> Found
     ensures { λ r. ⌜ r ≡ findFrom (floorOf t) (termsIn (now (table .entry)) count) t ⌝ }
 {
-    let low = floor(t);
-    let mut i = count;
-    while low < wide(i) {
-        i -= 1;
-        if same(records::term_at(table, i), t) {
-            return Found { is: true, at: i };
+    for i in floor(t)..wide(count) {
+        let at = i as u16;
+        if same(records::term_at(table, at), t) {
+            return Found { is: true, at: at };
         }
     }
     Found { is: false, at: 0 }

@@ -185,16 +185,36 @@ none-below n t (u ∷ us) h l = formed-newest n u us h λ p q v. go p (sameOf u 
     go p true e r = let k = lower n us u p in absurd (omega (arith, ap floorOf (same-true u t e)))
     go p false e r = r
 
--- The code's search finds what document 01's finds.
+-- what is not found is missing
+none-found : (t : Term) (ts : List Term) → findOf ts t .is ≡ false → findOf ts t ≡ missing
+unfolding findOf
+none-found t [] h = refl
+none-found t (u ∷ us) h = go (sameOf u t) h (none-found t us)
+  where
+    go : (b : Bool) → pick b (record { is = true; at = length us }) (findOf us t) .is ≡ false → (findOf us t .is ≡ false → findOf us t ≡ missing)
+        → pick b (record { is = true; at = length us }) (findOf us t) ≡ missing
+    go true e r = never (sym e)
+    go false e r = r e
+
+-- a term that is not repeated is not equal to one that is found
+unlike : (t u : Term) (us : List Term) → not (findOf us u .is) ≡ true → findOf us t .is ≡ true → sameOf u t ≡ false
+unlike t u us q k = go (sameOf u t) refl
+  where
+    go : (b : Bool) → sameOf u t ≡ b → b ≡ false
+    go true e = never (rw (same-true u t e, k) at q)
+    go false e = refl
+
+-- The code's search finds what document 01's finds: no term is repeated, so that the oldest equal one is the newest.
 pub find-same : (n : ℕ) (t : Term) (ts : List Term) → wellFormed n ts ≡ true → findAbove ts t ≡ findOf ts t
 unfolding findFrom findOf
 find-same n t [] h = refl
-find-same n t (u ∷ us) h = go (ltb (length us) (floorOf t)) refl (formed-newest n u us h λ p q v. find-same n t us v)
+find-same n t (u ∷ us) h = formed-newest n u us h λ p q v. go (ltb (length us) (floorOf t)) (findOf us t .is) refl refl q (find-same n t us v)
   where
-    go : (b : Bool) → ltb (length us) (floorOf t) ≡ b → findAbove us t ≡ findOf us t
-        → pick b missing (pick (sameOf u t) (record { is = true; at = length us }) (findFrom (floorOf t) us t)) ≡ findOf (u ∷ us) t
-    go true e r = sym (none-below n t (u ∷ us) h (omega (arith, ltb-true (length us) (floorOf t) e)))
-    go false e r = rw r
+    go : (b c : Bool) → ltb (length us) (floorOf t) ≡ b → findOf us t .is ≡ c → not (findOf us u .is) ≡ true → findAbove us t ≡ findOf us t
+        → pick b missing (pick (findAbove us t .is) (findAbove us t) (pick (sameOf u t) (record { is = true; at = length us }) missing)) ≡ findOf (u ∷ us) t
+    go true c e k q r = sym (none-below n t (u ∷ us) h (omega (arith, ltb-true (length us) (floorOf t) e)))
+    go false true e k q r = simp (r, k, unlike t u us q k)
+    go false false e k q r = simp (r, none-found t us k)
 
 -- a term that is found is there
 pub record There (t : Term) (ts : List Term) (a : ℕ) : Type 0 where

@@ -226,7 +226,7 @@ impl Chain {
         );
     }
 
-    /// Each term made was compared with those from the newest down to its largest operand, and equal to none.
+    /// Each term made was compared with all those above its largest operand, and equal to none.
     fn comparisons(&self) {
         let opened = usize::from(self.start.session.count);
         let terms: Vec<Record> = records(&self.end.table)
