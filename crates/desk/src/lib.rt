@@ -22,8 +22,6 @@ ghost use Rattle.semantics.specs.Rules.{ruleRefusalOf};
 ghost use Rattle.forms.specs.Forms.{sessionBytes, answerBytes, readingBytes};
 ghost use Rattle.desk.specs.Exports.{deskOpen, deskFits, evaluatedForm, deskEvaluate, outcomeForm, readUnformed, deskRead, runUnformed, deskRun};
 
-
-
 // What a reading's first byte says.
 const A_TRUTH: u8 = 0;
 

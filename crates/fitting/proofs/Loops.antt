@@ -54,18 +54,26 @@ module _ (s : List ℕ) (n : ℕ) {z : Bool} where
     pub free-miss : b ≡ false → false ≡ z
     free-miss g = rw g at (next-free i inv h et eb)
 
-module _ (s : List ℕ) {z : Bool} (i : ℕ) (inv : every isZero (drop i s) ≡ z) where
-  pub zero-end : length s ≤ i → true ≡ z
+module _ (s : List ℕ) {z : Bool} (i : ℕ) (b : Bool) (inv : pick b (every isZero (drop i s)) false ≡ z) where
+  pub zero-end : length s ≤ i → b ≡ z
   unfolding every
-  zero-end h = rw (drop-of-length-le s h) at inv
+  zero-end h = go b (rw (drop-of-length-le s h) at inv)
+    where
+      go : (b : Bool) → pick b true false ≡ z → b ≡ z
+      go true e = e
+      go false e = e
 
   module _ (h : i < length s) where
-    left : pick (eqb (getD s i 0) 0) (every isZero (drop (i + 1) s)) false ≡ z
+    left : every isZero (drop i s) ≡ pick (eqb (getD s i 0) 0) (every isZero (drop (i + 1) s)) false
     unfolding every isZero if_then_else_
-    left = rw add-one (rw (drop-cons s i 0 h) at inv)
+    left = rw (add-one, drop-cons s i 0 h)
 
-    pub zero-next : getD s i 0 ≡ 0 → every isZero (drop (i + 1) s) ≡ z
-    zero-next e = rw (eq-eqb _ _ e) at left
+    pub zero-next : getD s i 0 ≡ 0 → pick b (every isZero (drop (i + 1) s)) false ≡ z
+    zero-next e = rw (left, eq-eqb _ _ e) at inv
 
-    pub zero-miss : (getD s i 0 ≡ 0 → ⊥) → false ≡ z
-    zero-miss e = rw (ne-eqb _ _ e) at left
+    pub zero-miss : (getD s i 0 ≡ 0 → ⊥) → pick false (every isZero (drop (i + 1) s)) false ≡ z
+    zero-miss e = go b (rw (left, ne-eqb _ _ e) at inv)
+      where
+        go : (b : Bool) → pick b false false ≡ z → false ≡ z
+        go true e = e
+        go false e = e

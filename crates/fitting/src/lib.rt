@@ -301,18 +301,19 @@ fn none_free(table: &[u8], n: u16, count: u16) -> bool
     true
 }
 
-// Whether a slice is zero from a place on.
+// Whether a slice is zero from a place on. It looks at every byte, so that a compiler can look at many at once.
 fn zero_from(s: &[u8], at: usize) -> bool
     ensures { λ r. ⌜ r ≡ every isZero (drop at (now (s .entry))) ⌝ }
 {
+    let mut zero = true;
     let mut i = at;
     while i < s.len() {
         if s[i] != 0 {
-            return false;
+            zero = false;
         }
         i += 1;
     }
-    true
+    zero
 }
 
 fn formulas_fit(table: &[u8], session: Session) -> bool

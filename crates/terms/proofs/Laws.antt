@@ -3,15 +3,16 @@
 use mathlib.Core.Path.{_≡_, refl, sym, ap, _∙_}
 use mathlib.Core.Bool.{Bool, true, false}
 use mathlib.Core.List.{List, [], _∷_, _++_, append-nil}
-use Prim.Native.Nat.{ℕ, zero, suc, _+_, _-_, _*_, _<_, _≤_}
+use Prim.Native.Nat.{ℕ, zero, suc, _+_, _-_, _*_, _%_, _<_, _≤_}
 use native.Mathlib.Omega.{arith}
-use lib.ListN.{length, take, drop, drop-of-length-le, length-drop}
+use lib.ListN.{getD, length, take, drop, drop-of-length-le, length-drop}
 use lib.Seq.{take-all}
 use lib.Dec.{eqb, ltb}
 use borrow.Author.Tests.{eq-eqb, ne-eqb, lt-ltb, le-ltb, eqb-true, eqb-false}
-use Rattle.notation.specs.Notation.{pick}
+use Rattle.notation.specs.Notation.{pick, with}
 use Rattle.semantics.specs.declared.Term.{Term}
 use Rattle.semantics.specs.declared.Found.{Found}
+use Rattle.semantics.specs.Records.{recordAt}
 use Rattle.semantics.specs.Terms.{blank, termAt, sameOf, termsIn, at}
 use Rattle.terms.specs.Search.{findFrom, missing}
 
@@ -96,20 +97,29 @@ module _ (s : List ℕ) (t : Term) where
           let l : i < n = omega (arith, eqb-false i n q) in
           rw (one-more n i (omega arith), one-more n (i + 1) (omega arith), r l)
 
+low-byte : (k m n : ℕ) → k < 256 → k + 256 * m ≡ n → k ≡ n % 256
+low-byte k m n l e = omega arith
+
 -- such a search that is known to end at z
 module _ (s : List ℕ) (t : Term) {z : Found} (n i : ℕ) (inv : findFrom i (termsIn s n) t ≡ z) {w : ℕ} (ew : w ≡ n) where
   pub find-none : w ≤ i → missing ≡ z
   find-none h = sym (none-left s t n i (omega arith)) ∙ inv
 
-  module _ (h : i < w) {x : Term} (ex : x ≡ termAt s i) {b : Bool} (eb : b ≡ sameOf x t) where
-    turned : pick b (record { is = true; at = i }) (findFrom (i + 1) (termsIn s n) t) ≡ z
-    turned = sym (turn s t n i (omega arith) (eb ∙ ap (λ (y : Term). sameOf y t) ex)) ∙ inv
+  module _ (h : i < w) where
+    turned : (b : Bool) → b ≡ sameOf (termAt s i) t → pick b (record { is = true; at = i }) (findFrom (i + 1) (termsIn s n) t) ≡ z
+    turned b eb = sym (turn s t n i (omega arith) eb) ∙ inv
 
-    pub find-found : b ≡ true → record { is = true; at = i } ≡ z
-    find-found g = rw g at turned
+    module _ {x : Term} (ex : x ≡ termAt s i) {b : Bool} (eb : b ≡ sameOf x t) where
+      pub find-found : b ≡ true → record { is = true; at = i } ≡ z
+      find-found g = turned true (sym g ∙ eb ∙ ap (λ (y : Term). sameOf y t) ex)
 
-    pub find-next : b ≡ false → findFrom (i + 1) (termsIn s n) t ≡ z
-    find-next g = rw g at turned
+      pub find-next : b ≡ false → findFrom (i + 1) (termsIn s n) t ≡ z
+      find-next g = turned false (sym g ∙ eb ∙ ap (λ (y : Term). sameOf y t) ex)
+
+    -- the low byte of its `a` is another
+    pub find-past : (getD s (8 * i + 2) 0 ≡ t .a % 256 → ⊥) → getD s (8 * i + 2) 0 < 256 → findFrom (i + 1) (termsIn s n) t ≡ z
+    unfolding termAt recordAt with
+    find-past g l = turned false (same-1 (termAt s i) t (λ e. g (low-byte (getD s (8 * i + 2) 0) (getD s (8 * i + 2 + 1) 0) (t .a) l e)))
 
 -- a part that runs to the end, as it is lent, and come back
 module _ (s : List ℕ) (a : ℕ) where

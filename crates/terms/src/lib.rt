@@ -7,7 +7,7 @@ use semantics::Term;
 use semantics::numbers;
 ghost use mathlib.Core.Path.{_≡_};
 ghost use mathlib.Core.List.{_++_};
-ghost use Prim.Native.Nat.{_≤_, max};
+ghost use Prim.Native.Nat.{_*_, _≤_, max};
 ghost use lib.ListN.{length, drop};
 ghost use Rattle.semantics.specs.Terms.{termsIn, at as «term-number», bytesOf, sameOf, sortOf, knownOf};
 ghost use Rattle.semantics.specs.Steps.{makeOf};
@@ -130,16 +130,37 @@ fn floor(t: Term) -> usize
     }
 }
 
+// How many of the first `count` records lie whole in the table.
+fn whole_records(table: &[u8], count: u16) -> usize
+    ensures { λ r. ⌜ (r ≤ count) × (8 * r ≤ length (now (table .entry))) ⌝ }
+{
+    let n = table.len() / 8;
+    if n < wide(count) { n } else { wide(count) }
+}
+
 // The oldest term equal to t above its largest operand. It is searched for upward, since it often stands right after
-// that operand.
+// that operand. In a record that lies whole in the table one byte of `a` tells most others apart.
 pub fn find(table: &[u8], count: u16, t: Term) -> Found
     ensures { λ r. ⌜ r ≡ findFrom (floorOf t) (termsIn (now (table .entry)) count) t ⌝ }
 {
-    for i in floor(t)..wide(count) {
+    let whole = whole_records(table, count);
+    let low = (t.a % 256) as u8;
+    let mut i = floor(t);
+    while i < whole {
+        if table[8 * i + 2] == low {
+            let at = i as u16;
+            if same(records::term_at(table, at), t) {
+                return Found { is: true, at: at };
+            }
+        }
+        i += 1;
+    }
+    while i < wide(count) {
         let at = i as u16;
         if same(records::term_at(table, at), t) {
             return Found { is: true, at: at };
         }
+        i += 1;
     }
     Found { is: false, at: 0 }
 }

@@ -1,9 +1,12 @@
--- `fitting::zero_from` meets its contract. The invariant: the bytes from i on decide the test. The measure is what is left of the slice.
--- Assumes nothing.
+-- `fitting::zero_from` meets its contract. The invariant: what was seen and the bytes from i on decide the test. The measure is what is left of
+-- the slice. Assumes nothing.
 use borrow.Author.Needs.{needs}
 use mathlib.Core.Path.{_≡_}
+use mathlib.Core.Bool.{false}
+use mathlib.Core.Logic.{⊎-elim}
 use Prim.Native.Nat.{_-_}
 use lib.ListN.{length, drop}
+use Rattle.notation.specs.Notation.{pick}
 use Rattle.semantics.specs.Rules.{every}
 use Rattle.semantics.specs.Fits.{isZero}
 use Rattle.fitting.proofs.Loops.{zero-end, zero-next, zero-miss}
@@ -11,19 +14,16 @@ use Rattle.fitting.proofs.zero_from.Statement.{statement}
 use Rattle.fitting.proofs.zero_from.Tie as tie
 
 abbrev Inv-loop : tie.InvT-loop
-Inv-loop s at i₀ i = every isZero (drop i s) ≡ every isZero (drop at s)
+Inv-loop s at zero₀ i₀ zero i = pick zero (every isZero (drop i s)) false ≡ every isZero (drop at s)
 
 abbrev μ-loop : tie.MeasureT-loop
-μ-loop s at i₀ i = length s - i
+μ-loop s at zero₀ i₀ zero i = length s - i
 
 loop-holds : tie.Need-loop-holds Inv-loop μ-loop
 loop-holds c = search needs
 
 shared-slice-read-if1 : tie.Need-shared-slice-read-if1 Inv-loop μ-loop
 shared-slice-read-if1 c = search needs
-
-returns : tie.Need-returns Inv-loop μ-loop
-returns c = search (needs, zero-miss)
 
 add-i : tie.Need-add-i Inv-loop μ-loop
 add-i c = search needs
@@ -32,21 +32,17 @@ loop-less : tie.Need-loop-less Inv-loop μ-loop
 loop-less c = search needs
 
 loop-again : tie.Need-loop-again Inv-loop μ-loop
-loop-again c = search (needs, zero-next)
+loop-again c =
+    let at = c .before .before .before in
+    ⊎-elim
+    (λ w. rw (w .1) (zero-miss _ (at .loop .i) (at .loop .zero) (at .loop .inv) (c .before .before .loop-test .taken) (w .0 .taken)))
+    (λ w. rw (w .1) (zero-next _ (at .loop .i) (at .loop .zero) (at .loop .inv) (c .before .before .loop-test .taken) (w .0 .left)))
+    (c .if1 .came)
 
-returns-2 : tie.Need-returns-2 Inv-loop μ-loop
-returns-2 c = search (needs, zero-end)
+returns : tie.Need-returns Inv-loop μ-loop
+returns c = search (needs, zero-end)
 
 pub zero-from-spec : {M : Type 1} → statement M
 zero-from-spec =
     tie.close
-    (tie.spec
-    Inv-loop
-    μ-loop
-    loop-holds
-    shared-slice-read-if1
-    returns
-    add-i
-    loop-less
-    loop-again
-    returns-2)
+    (tie.spec Inv-loop μ-loop loop-holds shared-slice-read-if1 add-i loop-less loop-again returns)
