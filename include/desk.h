@@ -27,8 +27,8 @@
  *   16 the store is full; a reading's place of another length than 4, in desk_run
  *
  * The forms are tested first (in desk_open the table's length before them), each in the order of the arguments, then the
- * operation makes its own tests in their order. crates/desk/specs has the forms, and each function's answer and every
- * byte that it leaves, as definitions; the functions are proved equal to them on all arguments.
+ * operation makes its own tests in their order. crates/forms/specs has the forms, and crates/desk/specs each function's
+ * answer and every byte that it leaves, as definitions; the functions are proved equal to them on all arguments.
  */
 #ifndef DESK_H
 #define DESK_H

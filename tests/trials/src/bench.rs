@@ -1,9 +1,9 @@
 //! The time of test 3 on full tables and on an opening, and of the tests 4 to 7 on the longest rule, beside the second
 //! evaluator's.
 
+use crate::compare::{second_fits, second_rule_refusal};
 use crate::desk;
 use crate::rules::{guarded_update, long_rule};
-use crate::trials::{second_fits, second_rule_refusal};
 use second::dice::record;
 use second::{evaluate, open, Answer, Input, Record, Session};
 use std::hint::black_box;

@@ -1,11 +1,7 @@
 //! The desk's exports, with the byte forms of what they take and give.
 
+pub use ::desk::exports::{evaluate, fits, open, read, rule_refusal, run};
 use second::{Input, Outcome, ResultOf, Session};
-
-#[path = "../../../library/rust/src/exports.rs"]
-mod exports;
-
-pub use exports::{evaluate, fits, open, read, rule_refusal, run};
 
 pub fn inputs_bytes(inputs: &[Input; 16]) -> Vec<u8> {
     let mut bytes = Vec::new();

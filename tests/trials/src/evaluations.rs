@@ -1,13 +1,13 @@
 //! Evaluations: the desk and the second evaluator go through the same sessions side by side.
 
+use crate::compare::{compare_fits, result_of, FALSE};
 use crate::desk;
 use crate::rules::{chained_targets, guarded_update, self_application};
+use crate::session_trials::readings;
 use crate::tally::Tally;
-use crate::trials::{compare_fits, readings, result_of};
 use second::dice::{record, rule, Dice};
 use second::{evaluate, open, Answer, Input, Session};
 
-const FALSE: Input = Input { kind: 0, value: 0 };
 const UNANSWERED: [u8; 10] = [0xa5; 10];
 
 /// One session, kept by both.

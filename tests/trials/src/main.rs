@@ -1,13 +1,18 @@
 //! Compares the desk's exports and the printing program with the second evaluator, byte for byte, and the lines of the
-//! library's examples with those wanted. `bench` and `speed` take times instead, and `stack` tries an evaluation in so
-//! many KiB of stack.
+//! library's examples with those wanted. `figures` takes times instead, and tries an evaluation in 1 MiB of stack; `bench`,
+//! `speed` and `stack` with a number of KiB are its parts.
 
 mod bench;
+mod compare;
 mod desk;
 mod evaluations;
 mod examples;
+mod form_trials;
 mod prints;
+mod rule_trials;
 mod rules;
+mod run_trials;
+mod session_trials;
 mod speed;
 mod stack;
 mod tally;
@@ -17,6 +22,11 @@ mod vectors;
 fn main() {
     let words: Vec<String> = std::env::args().skip(1).collect();
     match words.iter().map(String::as_str).collect::<Vec<_>>()[..] {
+        ["figures"] => {
+            bench::run();
+            speed::run();
+            return stack::run(1_024);
+        }
         ["bench"] => return bench::run(),
         ["speed"] => return speed::run(),
         ["stack", kibibytes] => return stack::run(kibibytes.parse().expect("a number")),

@@ -1,9 +1,9 @@
 //! The times of opening, evaluating and reading beside the second evaluator's, and the comparisons that the search for
 //! an equal term takes; each as rows of a table.
 
+use crate::compare::result_of;
 use crate::desk;
 use crate::rules::guarded_update;
-use crate::trials::result_of;
 use second::dice::{record, rule, Dice};
 use second::{evaluate, open, read, records, Answer, Input, Record, ResultOf, Session};
 use std::hint::black_box;
@@ -57,7 +57,7 @@ fn compare<T: Clone>(
     mut second: impl FnMut(&mut T),
 ) {
     let mut best = [f64::MAX; 2];
-    for _ in 0..20 {
+    for _ in 0..100 {
         let works: [&mut dyn FnMut(&mut T); 2] = [&mut desk, &mut second];
         for (best, work) in best.iter_mut().zip(works) {
             let mut copy = start.clone();

@@ -1,8 +1,8 @@
 //! The vectors' cases through the desk. What they expect is checked on the second evaluator, by its program `vectors`.
 
+use crate::compare::{compare_open, compare_read, compare_run, result_of};
 use crate::evaluations::Pair;
 use crate::tally::Tally;
-use crate::trials::{compare_open, compare_read, compare_run, result_of};
 use second::text::{hex, input, sixteen};
 use second::{Answer, Input, ResultOf};
 

@@ -1,0 +1,127 @@
+//! One comparison of each operation, and the second evaluator's tests, through its operations.
+
+use crate::desk;
+use crate::tally::Tally;
+use second::{evaluate, open, read, run, Answer, Input, Outcome, ResultOf, Session};
+
+pub const FALSE: Input = Input { kind: 0, value: 0 };
+
+/// Tests 4 to 7: a run on good inputs with an allowance of 0 goes no further than 8.
+pub fn second_rule_refusal(bytes: &[u8]) -> u8 {
+    match run(&[FALSE; 16], &[0; 16], bytes, 0, 0) {
+        Outcome::Refused(8) => 0,
+        Outcome::Refused(refusal) => refusal,
+        other => panic!("an allowance of 0 gave {other:?}"),
+    }
+}
+
+/// Test 3: an evaluation of no bytes goes no further than 4.
+pub fn second_fits(session: &Session, table: &[u8]) -> u8 {
+    let (mut session, mut table) = (*session, table.to_vec());
+    match evaluate(&mut session, &mut table, &[], 1) {
+        Answer::Refused(4) => 0,
+        Answer::Refused(refusal) => refusal,
+        other => panic!("no rule gave {other:?}"),
+    }
+}
+
+/// A refusal's number, or 100 and what the reading's first byte says.
+fn answer_number(outcome: Outcome) -> u8 {
+    match desk::outcome_bytes(outcome) {
+        (0, [tag, ..]) => 100 + tag,
+        (refusal, _) => refusal,
+    }
+}
+
+pub fn compare_open(tally: &mut Tally, inputs: &[Input; 16], bytes: usize) {
+    let (mut ours, mut theirs) = (vec![0x5a; bytes], vec![0x5a; bytes]);
+    let mut session = vec![0xa5; 74];
+    let refusal = desk::open(&desk::inputs_bytes(inputs), &mut ours, &mut session);
+    let (expected, form) = match open(inputs, &mut theirs) {
+        Ok(session) => (0, desk::session_bytes(&session)),
+        Err(refusal) => (refusal, vec![0xa5; 74]),
+    };
+    tally.saw("open", expected);
+    tally.same("open", refusal, expected);
+    tally.same_bytes("open's table", &ours, &theirs);
+    tally.same_bytes("open's session", &session, &form);
+}
+
+pub fn compare_rule(tally: &mut Tally, bytes: &[u8]) {
+    let (ours, theirs) = (desk::rule_refusal(bytes), second_rule_refusal(bytes));
+    tally.saw("rule", theirs);
+    tally.same("rule refusal", ours, theirs);
+}
+
+pub fn compare_fits(tally: &mut Tally, session: &Session, table: &[u8]) {
+    let ours = desk::fits(&desk::session_bytes(session), table);
+    let theirs = second_fits(session, table);
+    tally.saw("fits", theirs);
+    tally.same("fits", ours, theirs);
+}
+
+pub fn compare_run(
+    tally: &mut Tally,
+    inputs: &[Input; 16],
+    numbers: &[u16; 16],
+    bytes: &[u8],
+    allowance: u16,
+    store: usize,
+) {
+    let mut ours = vec![0x5a; store];
+    let mut reading = desk::UNREAD;
+    let refusal = desk::run(
+        &desk::inputs_bytes(inputs),
+        &desk::numbers_bytes(numbers),
+        bytes,
+        allowance,
+        &mut ours,
+        &mut reading,
+    );
+    let outcome = run(inputs, numbers, bytes, allowance, store);
+    tally.saw("run", answer_number(outcome));
+    tally.same("run", (refusal, reading), desk::outcome_bytes(outcome));
+    tally.same(
+        "run's store is zero",
+        ours.iter().all(|&byte| byte == 0),
+        true,
+    );
+}
+
+pub fn compare_read(
+    tally: &mut Tally,
+    session: &Session,
+    table: &[u8],
+    numbers: &[u16; 16],
+    result: &ResultOf,
+    work: usize,
+) {
+    let mut ours = vec![0x5a5a_5a5a; work];
+    let mut reading = desk::UNREAD;
+    let refusal = desk::read(
+        &desk::session_bytes(session),
+        table,
+        &desk::numbers_bytes(numbers),
+        &desk::result_bytes(result),
+        &mut ours,
+        &mut reading,
+    );
+    let outcome = read(session, table, numbers, result, work);
+    tally.saw("read", answer_number(outcome));
+    tally.same("read", (refusal, reading), desk::outcome_bytes(outcome));
+    tally.same("read's work is zero", ours.iter().all(|&n| n == 0), true);
+}
+
+pub fn result_of(answer: Answer) -> Option<ResultOf> {
+    let (s, t, value, halted) = match answer {
+        Answer::Out { s, t, value, .. } => (s, t, value, false),
+        Answer::Halt { s, t, .. } => (s, t, 0, true),
+        Answer::Refused(_) => return None,
+    };
+    Some(ResultOf {
+        s,
+        t,
+        value,
+        halted,
+    })
+}

@@ -1,0 +1,145 @@
+//! Sessions of the second evaluator, whole and damaged: test 3 and readings.
+
+use crate::compare::{compare_fits, compare_read, result_of, FALSE};
+use crate::tally::Tally;
+use second::dice::{record, rule, Dice};
+use second::{evaluate, open, Answer, Input, ResultOf, Session};
+
+const FREE_TRUTH: Input = Input { kind: 2, value: 0 };
+const FREE_WORD: Input = Input { kind: 3, value: 0 };
+
+pub fn all(tally: &mut Tally) {
+    sessions(tally);
+    damaged_tables(tally);
+    damaged_sessions(tally);
+}
+
+/// Sessions of some rules, each result read under many numbers and with work lists about the count.
+fn sessions(tally: &mut Tally) {
+    let mut dice = Dice(0x5e55);
+    for _ in 0..4_000 {
+        let inputs = dice.inputs();
+        let size = dice.pick(&[272, 512, 4_096, 16_384]);
+        let mut table = vec![0; size];
+        let mut session = open(&inputs, &mut table).expect("a good opening");
+        for _ in 0..3 {
+            let size = dice.below(20) + 1;
+            let bytes = dice.rule(size);
+            let answer = evaluate(&mut session, &mut table, &bytes, 24);
+            compare_fits(tally, &session, &table);
+            if let Some(result) = result_of(answer) {
+                readings(tally, &mut dice, &session, &table, &result);
+            }
+        }
+    }
+}
+
+pub fn readings(
+    tally: &mut Tally,
+    dice: &mut Dice,
+    session: &Session,
+    table: &[u8],
+    result: &ResultOf,
+) {
+    let count = usize::from(session.count);
+    for _ in 0..4 {
+        let numbers = dice.any_numbers(&session.inputs);
+        compare_read(tally, session, table, &numbers, result, count);
+        compare_read(tally, session, table, &numbers, result, count - 1);
+        compare_read(tally, session, table, &numbers, result, count + 3);
+        let near = u64::from(session.count) + 2;
+        let other = ResultOf {
+            s: dice.below(near) as u16,
+            t: dice.below(near) as u16,
+            value: dice.pick(&[0, 65_535, session.count, result.value]),
+            halted: false,
+        };
+        compare_read(tally, session, table, &numbers, &other, count);
+        for value in [session.count - 1, session.count] {
+            let other = ResultOf { value, ..*result };
+            compare_read(tally, session, table, &numbers, &other, count);
+        }
+        let any = ResultOf {
+            value: dice.below(near) as u16,
+            ..*result
+        };
+        compare_read(tally, session, table, &numbers, &any, count);
+    }
+}
+
+/// A session of one rule with terms of every kind, in a small table.
+pub fn small_session() -> (Session, Vec<u8>) {
+    let mut inputs = [FALSE; 16];
+    inputs[0] = FREE_TRUTH;
+    inputs[1] = FREE_WORD;
+    let mut table = vec![0; 480];
+    let mut session = open(&inputs, &mut table).expect("a good opening");
+    // let f = if place 0 then a procedure else word 7, in f of place 2
+    let bytes = rule(&[
+        record(6, 0, 1, 5, 0),
+        record(7, 0, 0, 2, 4),
+        record(3, 0, 3, 0, 0),
+        record(5, 1, 0, 2, 0),
+        record(1, 2, 7, 0, 0),
+        record(4, 0, 0, 2, 0),
+    ]);
+    let answer = evaluate(&mut session, &mut table, &bytes, 9);
+    assert!(matches!(answer, Answer::Out { .. }), "{answer:?}");
+    (session, table)
+}
+
+/// Every other value of every byte of a small table.
+fn damaged_tables(tally: &mut Tally) {
+    let (session, good) = small_session();
+    let numbers = [1; 16];
+    let result = ResultOf {
+        s: session.s,
+        t: session.t,
+        value: 2,
+        halted: session.halted,
+    };
+    for at in 0..good.len() {
+        let mut table = good.clone();
+        for other in 0..=255 {
+            table[at] = other;
+            compare_fits(tally, &session, &table);
+            if other < 10 {
+                compare_read(tally, &session, &table, &numbers, &result, 60);
+            }
+        }
+    }
+    for length in (0..good.len()).chain([65_544]) {
+        let mut table = good.clone();
+        table.resize(length, 0);
+        compare_fits(tally, &session, &table);
+    }
+}
+
+/// Every field of a session set to numbers about its bounds.
+fn damaged_sessions(tally: &mut Tally) {
+    let (good, table) = small_session();
+    for n in (0..=70).chain([999, 1_000, 1_001, 8_192, 65_535]) {
+        compare_fits(tally, &Session { count: n, ..good }, &table);
+        compare_fits(tally, &Session { s: n, ..good }, &table);
+        compare_fits(tally, &Session { t: n, ..good }, &table);
+        compare_fits(
+            tally,
+            &Session {
+                accepted: n,
+                ..good
+            },
+            &table,
+        );
+        let halted = !good.halted;
+        compare_fits(tally, &Session { halted, ..good }, &table);
+    }
+    for at in 0..16 {
+        for kind in 0..6 {
+            for value in [0, 1, 2, 7] {
+                let mut session = good;
+                session.inputs[at] = Input { kind, value };
+                compare_fits(tally, &session, &table);
+            }
+        }
+    }
+}
