@@ -8,7 +8,7 @@ use Rattle.notation.specs.Notation.{if_then_else_, if_equals_then_else_, if_bel
 use Rattle.operators.specs.Operators.{operandsOf, givesTruthOf, operateOf}
 use Rattle.semantics.specs.declared.Outcome.{Outcome}
 use Rattle.semantics.specs.declared.Outcome.the-variants.{Truth, Word, Procedure, Abort, Error, Refused}
-use Rattle.semantics.specs.Numbers.{truthTerm, wordTerm, procedureTerm, notCode, isWordCode, depthSpent, storeFull}
+use Rattle.semantics.specs.Numbers.{truthTerm, wordTerm, procedureTerm, notCode, isWordCode, depthSpent, storeFull, noValue}
 use Rattle.semantics.specs.Run.{Value, truth, word, none, Ended, gives, errs, isFalse, isAWord, isAProcedure, wordIn, wordsRun, operationValue, operatorRun}
 use Rattle.semantics.specs.PlainRun.{ended, valueGiven, endedOutcome, storedOutcome}
 use Rattle.interpreter.specs.declared.Held.{Held}
@@ -132,7 +132,7 @@ module _ (v : Held) where
   unfolding valueGiven shown
   outcome-procedure h = rw (of-procedure _ _ _ h)
 
-  pub outcome-none : (v .sort ≡ truthTerm → ⊥) → (v .sort ≡ wordTerm → ⊥) → (v .sort ≡ procedureTerm → ⊥) → Error ≡ valueGiven (shown v)
+  pub outcome-none : (v .sort ≡ truthTerm → ⊥) → (v .sort ≡ wordTerm → ⊥) → (v .sort ≡ procedureTerm → ⊥) → Refused noValue ≡ valueGiven (shown v)
   unfolding valueGiven shown
   outcome-none f g h = rw (of-none _ _ _ f g h)
 

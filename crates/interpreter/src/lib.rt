@@ -17,6 +17,7 @@ use semantics::numbers::IF_RECORD;
 use semantics::numbers::INPUT_COUNT;
 use semantics::numbers::IS_WORD_CODE;
 use semantics::numbers::LET_RECORD;
+use semantics::numbers::NO_VALUE;
 use semantics::numbers::NOT_CODE;
 use semantics::numbers::OPERATOR_RECORD;
 use semantics::numbers::PLACE_LIMIT;
@@ -331,7 +332,7 @@ fn stopped(how: u8, k: u16) -> Ran
     }
 }
 
-// What a run answers. A value of no sort is an error: a rule that passed the tests has none.
+// What a run answers.
 fn outcome(o: Ran) -> Outcome
     ensures { λ r. ⌜ r ≡ storedOutcome (storedBy shown o) ⌝ }
 {
@@ -348,6 +349,7 @@ fn outcome(o: Ran) -> Outcome
     }
 }
 
+// A value. A rule that passed the tests gives no other, and no operation answers the last number.
 fn value_outcome(v: Held) -> Outcome
     ensures { λ r. ⌜ r ≡ valueGiven (shown v) ⌝ }
 {
@@ -356,7 +358,7 @@ fn value_outcome(v: Held) -> Outcome
         TRUTH_TERM => Outcome::Truth(v.number == 1),
         WORD_TERM => Outcome::Word(v.number),
         PROCEDURE_TERM => Outcome::Procedure(v.number),
-        _ => Outcome::Error,
+        _ => Outcome::Refused(NO_VALUE),
     }
 }
 

@@ -1,8 +1,8 @@
--- Demand 3 on small lists of rules, by computation, and two facts about terms that no reading shows. Crate `demands` proves it of every list, but
--- above this crate: here a definition that no longer gives it is refused beside the definitions. Assumes nothing.
-use Prim.Native.Nat.{ℕ}
+-- Demand 3 on small lists of rules and demand 2 on small plain runs, by computation, and two facts about terms that no reading shows. Crate
+-- `demands` proves both of every list and every run, but above this crate: here a definition that no longer gives it is refused beside the definitions. Assumes nothing.
+use Prim.Native.Nat.{ℕ, _*_}
 use mathlib.Core.Path.{_≡_, refl}
-use mathlib.Core.Bool.{Bool, true, _||_}
+use mathlib.Core.Bool.{Bool, true, false, _||_}
 use mathlib.Core.List.{List, [], _∷_}
 use lib.ListN.{replicate}
 use Rattle.semantics.specs.declared.Input.{Input}
@@ -10,8 +10,8 @@ use Rattle.semantics.specs.declared.Term.{Term}
 use Rattle.semantics.specs.declared.State.{State}
 use Rattle.semantics.specs.declared.Reading.{Reading as Read}
 use Rattle.semantics.specs.declared.Outcome.{Outcome}
-use Rattle.semantics.specs.declared.Outcome.the-variants.{Word, Error}
-use Rattle.semantics.specs.Numbers.{datumRecord, procedureRecord, callRecord, letRecord, ifRecord, abortRecord, errorRecord, falseDatum, wordDatum, wordTerm, procedureTerm, constantTruth, freeTruth}
+use Rattle.semantics.specs.declared.Outcome.the-variants.{Truth, Word, Error, Refused}
+use Rattle.semantics.specs.Numbers.{datumRecord, variableRecord, procedureRecord, callRecord, letRecord, ifRecord, abortRecord, errorRecord, falseDatum, wordDatum, wordTerm, procedureTerm, constantTruth, freeTruth, storeFull}
 use Rattle.notation.specs.Notation as Notation
 use Rattle.operators.specs.Operators as Operators
 use Rattle.semantics.specs.Records as Records
@@ -101,6 +101,16 @@ both o = record { read = o; run = o; legal = true }
 unfoldable pub valueTerm : History.History → Term
 valueTerm h = Terms.at (Terms.termsIn (h .table) (h .session .count)) (h .result .value)
 
+-- ---- demand 2 of the plain run
+
+-- let x be false. x.
+abbrev letFalse : List ℕ
+letFalse = bytes letRecord 0 1 2 0 (bytes datumRecord falseDatum 0 0 0 (bytes variableRecord 0 0 0 0 []))
+
+-- a plain run at depth 2 over a store of so many places, where input 0 is given n
+unfoldable pub ranPlainly : List ℕ → ℕ → ℕ → Outcome
+ranPlainly rule places n = PlainRun.runPlainlyOf inputs (under n) rule 2 (replicate (8 * places) 1) .0
+
 -- ---- the instances
 pub record Instances : Type 0 where
   -- the printed case: each branch is merged under its own guard, and the reported depth is enough for the run
@@ -115,9 +125,16 @@ pub record Instances : Type 0 where
   -- "Sharing a procedure term between two rules because record and bindings agree.": the second rule's has the count 1. No reading tells them
   -- apart, since no rule meets another's values.
   pub procedure-of-its-rule : valueTerm (desk (giving 7 ∷ giving 8 ∷ [])) ≡ Terms.term procedureTerm 0 0 18 1
+  -- "each let and each call of a procedure takes one as it binds": the inputs and the let need 17 places
+  pub let-needs-a-place : ranPlainly letFalse 16 0 ≡ Refused storeFull
+  pub let-has-a-place : ranPlainly letFalse 17 0 ≡ Truth false
+  -- "If: r on false, else q."
+  pub branch-of-the-test : ranPlainly sevenOrError 16 1 ≡ Word 7
+  -- only what document 01 refuses is refused: eleven rules in turn are accepted
+  pub eleven-accepted : desk (replicate 11 (bytes datumRecord falseDatum 0 0 0 [])) .session .accepted ≡ 11
 
 pub instances : Instances
-unfolding Notation.if_then_else_ Notation.if_equals_then_else_ Notation.if_below_then_else_ Notation.unless_then_else_ Notation.with Operators.rowOf Operators.givesTruthOf Records.recordAt Rules.upTo Rules.every Rules.badRuleSize Rules.usesOf Rules.fieldOf Rules.shapedOf Rules.partsOf Rules.insideOf Rules.timesIn Rules.timesBelow Rules.onceOf Rules.linkedOf Rules.placesOf Rules.toldOf Rules.bindingsBelow Rules.scopedOf Rules.testsOf Rules.ruleRefusalOf Terms.termAt Terms.bytesOf Terms.termsIn Terms.put Terms.imageOf Terms.at Terms.sameOf Terms.findOf Terms.sortOf Terms.knownOf Terms.namesTruth Terms.namesBinding Terms.namesValue Terms.operandsLaidOut Terms.laidOut Terms.wellFormed Steps._>>=_ Steps.give Steps.refuse Steps._▹_ Steps.each Steps.reads Steps.up Steps.makeOf Factory.notOf Factory.andOf Factory.orOf Factory.impliesOf Factory.choiceOf Factory.truthOf Opening.badTableSize Opening.inputTaken Opening.inputTerm Opening.inputsOf Opening.chainOf Opening.openingOf Opening.opening Opening.openOf States.mergeAssumedOf States.mergeAssertedOf States.assumeOf States.assertOf States.haltsOf Walk.leafOf Walk.sideOf Walk.leftSideOf Walk.rightSideOf Walk.sidesOf Walk.nodeOf Walk.walkOf Walk.orTargetOf Walk.aimOf Merge.mergeStatesOf Merge.valueStepOf Merge.mergeValuesOf Merge.finishOf Merge.mergeOf Evaluation.placeOf Evaluation.datumOf Evaluation.procedureOf Evaluation.abortOf Evaluation.errorOf Evaluation.underOf Evaluation.letOf Evaluation.forkOf Evaluation.branchesOf Evaluation.bothOf Evaluation.ifOf Evaluation.applyOf Evaluation.targetOf Evaluation.targetsOf Evaluation.callOf Evaluation.expressionOf Evaluation.liveOf Evaluation.evalOf Fits.sameTerms Fits.noFree Fits.isZero Fits.fitsOf Evaluate.refusedBy Evaluate.haltedAgain Evaluate.evaluated Evaluate.badDepth Evaluate.evaluateOf Reading.isTrue Reading.isTruth Reading.operatorReading Reading.termReading Reading.nth Reading.readings Reading.valueOutcome Reading.resultOutcome Reading.numbersTaken Reading.resultTaken Reading.readIn Reading.readOutcome Reading.readOf Run.after Run.placed Run.isFalse Run.datumValue Run.callRun Run.expressionRun Run.runOf Run.inputValue Run.inputsBound PlainRun.valueGiven PlainRun.endedOutcome History.called History.calledAll History.ranOn History.ranAll History.runOfRules desk oneTrue sides valueTerm
+unfolding Notation.if_then_else_ Notation.if_equals_then_else_ Notation.if_below_then_else_ Notation.unless_then_else_ Notation.with Operators.rowOf Operators.givesTruthOf Records.recordAt Rules.upTo Rules.every Rules.badRuleSize Rules.usesOf Rules.fieldOf Rules.shapedOf Rules.partsOf Rules.insideOf Rules.timesIn Rules.timesBelow Rules.onceOf Rules.linkedOf Rules.placesOf Rules.toldOf Rules.bindingsBelow Rules.scopedOf Rules.testsOf Rules.ruleRefusalOf Terms.termAt Terms.bytesOf Terms.termsIn Terms.put Terms.imageOf Terms.at Terms.sameOf Terms.findOf Terms.sortOf Terms.knownOf Terms.namesTruth Terms.namesBinding Terms.namesValue Terms.operandsLaidOut Terms.laidOut Terms.wellFormed Steps._>>=_ Steps.give Steps.refuse Steps._▹_ Steps.each Steps.reads Steps.up Steps.makeOf Factory.notOf Factory.andOf Factory.orOf Factory.impliesOf Factory.choiceOf Factory.truthOf Opening.badTableSize Opening.inputTaken Opening.inputTerm Opening.inputsOf Opening.chainOf Opening.openingOf Opening.opening Opening.openOf States.mergeAssumedOf States.mergeAssertedOf States.assumeOf States.assertOf States.haltsOf Walk.leafOf Walk.sideOf Walk.leftSideOf Walk.rightSideOf Walk.sidesOf Walk.nodeOf Walk.walkOf Walk.orTargetOf Walk.aimOf Merge.mergeStatesOf Merge.valueStepOf Merge.mergeValuesOf Merge.finishOf Merge.mergeOf Evaluation.placeOf Evaluation.datumOf Evaluation.procedureOf Evaluation.abortOf Evaluation.errorOf Evaluation.underOf Evaluation.letOf Evaluation.forkOf Evaluation.branchesOf Evaluation.bothOf Evaluation.ifOf Evaluation.applyOf Evaluation.targetOf Evaluation.targetsOf Evaluation.callOf Evaluation.expressionOf Evaluation.liveOf Evaluation.evalOf Fits.sameTerms Fits.noFree Fits.isZero Fits.fitsOf Evaluate.refusedBy Evaluate.haltedAgain Evaluate.evaluated Evaluate.badDepth Evaluate.evaluateOf Reading.isTrue Reading.isTruth Reading.operatorReading Reading.termReading Reading.nth Reading.readings Reading.valueOutcome Reading.resultOutcome Reading.numbersTaken Reading.resultTaken Reading.readIn Reading.readOutcome Reading.readOf Run.after Run.placed Run.isFalse Run.datumValue Run.callRun Run.expressionRun Run.runOf Run.inputValue Run.inputsBound PlainRun.valueGiven PlainRun.endedOutcome History.called History.calledAll History.ranOn History.ranAll History.runOfRules desk oneTrue sides valueTerm PlainRun.onward PlainRun.taking PlainRun.callStored PlainRun.expressionStored PlainRun.storedOf PlainRun.startedOf PlainRun.storedOutcome PlainRun.runOutcome PlainRun.runPlainlyOf ranPlainly
 instances =
     record {
       printed-case = refl;
@@ -125,4 +142,8 @@ instances =
       no-target-called = refl;
       halted-without-value = refl;
       procedure-of-its-rule = refl;
+      let-needs-a-place = refl;
+      let-has-a-place = refl;
+      branch-of-the-test = refl;
+      eleven-accepted = refl;
     }

@@ -15,5 +15,6 @@ pub mod Evaluate
 pub mod Reading
 pub mod Run
 pub mod PlainRun
+pub mod Bindings
 pub mod History
 pub mod Print

@@ -177,6 +177,10 @@ workShort = 15
 abbrev pub storeFull : ℕ
 storeFull = 16
 
+-- what no operation answers: a run that would end with what is no value
+abbrev pub noValue : ℕ
+noValue = 254
+
 -- ---- limits
 abbrev pub inputCount : ℕ
 inputCount = 16

@@ -1,14 +1,13 @@
 -- The plain run: the concrete rules with a store of places (document 01, "Run plainly"). Assumes nothing.
 use Prim.Native.Nat.{ℕ, zero, suc, _/_, min}
-use mathlib.Core.Bool.{Bool, true, false}
-use mathlib.Core.List.{List, [], _∷_}
+use mathlib.Core.List.{List}
 use lib.ListN.{length, replicate}
 use Rattle.notation.specs.Notation.{with, if_then_else_, if_equals_then_else_, if_below_then_else_, unless_then_else_}
 use Rattle.semantics.specs.declared.Record.{Record}
 use Rattle.semantics.specs.declared.Input.{Input}
 use Rattle.semantics.specs.declared.Outcome.{Outcome}
 use Rattle.semantics.specs.declared.Outcome.the-variants.{Truth, Word, Procedure, Abort, Error, Refused}
-use Rattle.semantics.specs.Numbers.{datumRecord, variableRecord, procedureRecord, callRecord, operatorRecord, letRecord, ifRecord, abortRecord, inputCount, placeLimit, badInput, badNumber, badAllowance, depthSpent, storeFull}
+use Rattle.semantics.specs.Numbers.{datumRecord, variableRecord, procedureRecord, callRecord, operatorRecord, letRecord, ifRecord, abortRecord, inputCount, placeLimit, badInput, badNumber, badAllowance, depthSpent, storeFull, noValue}
 use Rattle.semantics.specs.Records.{recordAt}
 use Rattle.semantics.specs.Rules.{every, ruleRefusalOf}
 use Rattle.semantics.specs.Opening.{inputTaken}
@@ -66,13 +65,14 @@ storedOf room rule (suc d) i e k = expressionStored room rule (storedOf room rul
 unfoldable pub startedOf : ℕ → List ℕ → ℕ → Value → Stored
 startedOf room rule allowance e = with inputCount (if room below inputCount then (λ k. full) else storedOf room rule allowance 0 e)
 
--- "A procedure answers with its record number, as reading does."
+-- "A procedure answers with its record number, as reading does." Bindings and a missing place are no values: theirs is a number that no operation
+-- answers, so that an answer shows that the run met neither.
 unfoldable pub valueGiven : Value → Outcome
 valueGiven (truth b) = Truth b
 valueGiven (word w) = Word w
 valueGiven (procedure i e) = Procedure i
-valueGiven (binding v e) = Error
-valueGiven none = Error
+valueGiven (binding v e) = Refused noValue
+valueGiven none = Refused noValue
 
 unfoldable pub endedOutcome : Ended → Outcome
 endedOutcome (gives v) = valueGiven v

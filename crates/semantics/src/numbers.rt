@@ -110,6 +110,8 @@ pub const BAD_RESULT: u8 = 14;
 pub const WORK_SHORT: u8 = 15;
 // The store is full.
 pub const STORE_FULL: u8 = 16;
+// What no operation answers: a run that would end with what is no value.
+pub const NO_VALUE: u8 = 254;
 
 // Limits.
 pub const INPUT_COUNT: u16 = 16;
