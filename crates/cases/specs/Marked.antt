@@ -4,8 +4,8 @@ use mathlib.Core.List.{List, [], _∷_, _++_}
 use lib.ListN.{replicate}
 use Rattle.operators.specs.Operators.{operateOf}
 use Rattle.semantics.specs.declared.Input.{Input}
-use Rattle.semantics.specs.Numbers.{constantTruth, constantWord, freeTruth, datumRecord, variableRecord, procedureRecord, callRecord, operatorRecord, letRecord, ifRecord, errorRecord, trueDatum, wordDatum, wordTerm, badPlace, depthSpent}
-use Rattle.semantics.specs.Print.{Line, out, halt, refusal, numbers}
+use Rattle.semantics.specs.Numbers.{constantTruth, constantWord, freeTruth, datumRecord, variableRecord, procedureRecord, callRecord, operatorRecord, letRecord, ifRecord, errorRecord, trueDatum, wordDatum, wordTerm, badPlace, depthSpent, mostTable}
+use Rattle.semantics.specs.Print.{Line, out, numbers, printAllowance}
 use Rattle.semantics.specs.History.{History}
 use Rattle.cases.specs.Table.{Case, case, input, bytes, call, desk, answer, reading}
 
@@ -24,8 +24,9 @@ printedInputs = input freeTruth 0 ∷ falses 15
 abbrev pub printedRule : List ℕ
 printedRule = bytes ifRecord 0 0 1 2 (bytes datumRecord wordDatum 7 0 0 (bytes errorRecord 0 0 0 0 []))
 
+-- "allowance 100, table 65,536"
 abbrev pub printedDesk : History
-printedDesk = desk printedInputs 1024 (call printedRule 100 ∷ [])
+printedDesk = desk printedInputs mostTable (call printedRule printAllowance ∷ [])
 
 -- a desk with nothing but constant false for inputs
 abbrev pub plainDesk : History

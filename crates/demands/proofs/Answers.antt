@@ -15,7 +15,7 @@ use Rattle.semantics.specs.Records.{recordAt, recordsIn}
 use Rattle.semantics.specs.Rules.{upTo, badRuleSize, shapedOf, linkedOf, scopedOf, testsOf, ruleRefusalOf}
 use Rattle.semantics.specs.Fits.{fitsOf}
 use Rattle.semantics.specs.Evaluate.{refusedBy, haltedAgain, evaluated, badDepth, evaluateOf}
-use Rattle.demands.specs.Demands.{firstFailed}
+use Rattle.demands.specs.Demand1.{firstFailed}
 
 -- the tests 4 to 7 refuse by their own numbers
 rule-number : (s : List ℕ) → (ruleRefusalOf s ≡ misfit → ⊥) × (ruleRefusalOf s < badAllowance)

@@ -1,26 +1,21 @@
 -- What holds of every evaluation, whatever session and table it is given: it only appends to the table, older terms read the same in a longer one,
 -- and a result is the same under any larger allowance and in any longer table. Assumes nothing.
 use mathlib.Core.Path.{_≡_, refl, sym, ap, _∙_}
-use mathlib.Core.Bool.{Bool, true, false, not}
+use mathlib.Core.Bool.{true, false}
 use mathlib.Core.List.{List, [], _∷_}
-use Prim.Native.Nat.{ℕ, suc, _*_, _<_, _≤_}
+use Prim.Native.Nat.{ℕ, suc, _<_, _≤_}
 use native.Mathlib.Omega.{arith}
 use lib.ListN.{length}
-use lib.Dec.{leb}
-use borrow.Author.Tests.{ne-eqb, leb-true}
-use Rattle.notation.specs.Notation.{pick, with, if_then_else_, if_equals_then_else_, unless_then_else_}
+use borrow.Author.Tests.{ne-eqb}
+use Rattle.notation.specs.Notation.{with, if_equals_then_else_, unless_then_else_}
 use Rattle.semantics.specs.declared.Term.{Term}
 use Rattle.semantics.specs.declared.Result.{Result}
 use Rattle.semantics.specs.declared.Session.{Session}
 use Rattle.semantics.specs.declared.Answer.the-variants.{Refused}
 use Rattle.semantics.specs.declared.Evaluated.{Evaluated}
-use Rattle.semantics.specs.Numbers.{misfit}
-use Rattle.semantics.specs.Records.{recordsIn}
 use Rattle.semantics.specs.Terms.{termsIn}
 use Rattle.semantics.specs.Steps.{settingOf, roomOf, Got, gave, refused}
-use Rattle.semantics.specs.Rules.{every}
-use Rattle.semantics.specs.Opening.{badTableSize, inputTaken, opening}
-use Rattle.semantics.specs.Evaluation.{evalOf}
+use Rattle.semantics.specs.Opening.{opening}
 use Rattle.semantics.specs.Fits.{fitsOf}
 use Rattle.semantics.specs.Evaluate.{refusedBy, haltedAgain, left, evaluated, badDepth, evaluateOf}
 use Rattle.semantics.specs.Reading.{nth, readings}
@@ -28,9 +23,9 @@ use Rattle.terms.proofs.Laws.{terms-length}
 use Rattle.typing.proofs.Grown.{Grown, still, more, grown-length}
 use Rattle.typing.proofs.Formed.{never, both}
 use Rattle.depth.proofs.Depth.{same-above}
-use Rattle.opening.proofs.Opened.{sized}
-use Rattle.demands.specs.Demands.{firstFailed}
-use Rattle.demands.proofs.Longer.{adds-grown, adds-within, eval-adds, same-longer}
+use Rattle.demands.specs.Demand1.{firstFailed, ruling}
+use Rattle.demands.proofs.Longer.{same-longer}
+use Rattle.demands.proofs.Ruling.{evaluated-ruled, first-fits, first-same, ruled-grown, ruled-room}
 use Rattle.demands.proofs.Stored.{stored-terms, stored-older}
 use Rattle.demands.proofs.Answers.{Answered, failed, again, goes, answered, passed}
 
@@ -47,54 +42,16 @@ pub older-read : (ns : List ℕ) {ts us : List Term} → Grown ts us → (k : �
 older-read ns still k h = refl
 older-read ns (more {us = us} {t = t} g) k h = let l = grown-length g in reading-lower ns t us k (omega arith) ∙ older-read ns g k h
 
--- ---- a table that test 3 takes has room for its terms
-fits-room : (x : Session) (s : List ℕ) → fitsOf x s ≡ true → x .count ≤ roomOf (length s)
-unfolding fitsOf
-fits-room x s h =
-    both (not (badTableSize (length s))) _ h λ z h. both (every inputTaken (x .inputs)) _ h λ t h. both (leb (length (opening (x .inputs) .terms)) (x .count)) _ h λ a h.
-    both (leb (x .count) (recordsIn s)) _ h λ b h.
-    let m = sized (length s) (not-not _ z) .most in let n = leb-true (x .count) (recordsIn s) b in omega arith
-  where
-    not-not : (b : Bool) → not b ≡ true → b ≡ false
-    not-not true e = never e
-    not-not false e = refl
-
-first-fits : (rule : List ℕ) (allowance : ℕ) (x : Session) (s : List ℕ) → firstFailed rule allowance x s ≡ 0 → fitsOf x s ≡ true
-unfolding firstFailed unless_then_else_
-first-fits rule allowance x s = go (fitsOf x s) _
-  where
-    go : (f : Bool) (n : ℕ) → pick f n misfit ≡ 0 → f ≡ true
-    go true n e = refl
-    go false n e = absurd (omega arith)
-
 module _ (rule : List ℕ) (allowance : ℕ) (x : Session) (s : List ℕ) where
-  -- the evaluation by the rules
-  abbrev ruling : Got Result
-  ruling = evalOf rule (x .accepted) allowance 0 (opening (x .inputs) .environment) (x .state) (settingOf (length s)) (termsIn s (x .count))
-
-  evaluated-ruled : evaluated rule allowance x s ≡ left x s ruling
-  unfolding evaluated
-  evaluated-ruled = refl
-
-  module _ {us : List Term} {w : Result} {u : ℕ} (e : ruling ≡ gave us w u) (f : fitsOf x s ≡ true) where
-    ruled-grown : Grown (termsIn s (x .count)) us
-    ruled-grown = adds-grown (eval-adds rule (x .accepted) allowance 0 (opening (x .inputs) .environment) (x .state) (roomOf (length s)) (termsIn s (x .count)) e)
-
-    ruled-room : length us * 8 ≤ length s
-    ruled-room =
-        let r = fits-room x s f in let n = terms-length s (x .count) in
-        let a = adds-within (eval-adds rule (x .accepted) allowance 0 (opening (x .inputs) .environment) (x .state) (roomOf (length s)) (termsIn s (x .count)) e) (omega arith) in
-        omega arith
-
   record Appends (o : Evaluated × List ℕ) : Type 0 where
     grows : x .count ≤ o .0 .session .count
     older : termsIn (o .1) (x .count) ≡ termsIn s (x .count)
 
-  appends : firstFailed rule allowance x s ≡ 0 → (g : Got Result) → ruling ≡ g → Appends (left x s g)
+  appends : firstFailed rule allowance x s ≡ 0 → (g : Got Result) → ruling rule allowance x s ≡ g → Appends (left x s g)
   unfolding refusedBy
   appends z (gave us w u) e =
-      let f = first-fits rule allowance x s z in let g = ruled-grown e f in let l = grown-length g in let n = terms-length s (x .count) in
-      record { grows = omega arith; older = rw n at (stored-older (length s) g (ruled-room e f)) }
+      let f = first-fits rule allowance x s z in let g = ruled-grown rule allowance x s e f in let l = grown-length g in let n = terms-length s (x .count) in
+      record { grows = omega arith; older = rw n at (stored-older (length s) g (ruled-room rule allowance x s e f)) }
   appends z (refused k) e = record { grows = omega arith; older = refl }
 
   all-append : Appends (evaluateOf rule allowance x s)
@@ -104,7 +61,7 @@ module _ (rule : List ℕ) (allowance : ℕ) (x : Session) (s : List ℕ) where
       go : (n : ℕ) (o : Evaluated × List ℕ) → firstFailed rule allowance x s ≡ n → Answered rule allowance x s n o → Appends o
       go n o z (failed i q) = rw q (record { grows = omega arith; older = refl })
       go n o z (again i j q) = rw q (record { grows = omega arith; older = refl })
-      go n o z (goes i j q) = rw q (appends (z ∙ i) ruling refl)
+      go n o z (goes i j q) = rw q (appends (z ∙ i) (ruling rule allowance x s) refl)
 
   -- An evaluation only appends: the terms that there were stay, with their numbers.
   pub only-appends : termsIn (evaluateOf rule allowance x s .1) (x .count) ≡ termsIn s (x .count)
@@ -128,19 +85,15 @@ module _ (rule : List ℕ) (x : Session) (s : List ℕ) (d e : ℕ) (larger : d 
   larger-ruled (gave us w u) p h = rw (same-above rule (x .accepted) 0 (opening (x .inputs) .environment) (x .state) (settingOf (length s)) (termsIn s (x .count)) d e larger p)
   larger-ruled (refused k) p h = absurd (h k refl)
 
-  first-same : badDepth d ≡ false → badDepth e ≡ false → firstFailed rule d x s ≡ firstFailed rule e x s
-  unfolding firstFailed if_then_else_
-  first-same p q = rw (p, q)
-
   pub same-larger : badDepth e ≡ false → Accepts (evaluateOf rule d x s) → evaluateOf rule e x s ≡ evaluateOf rule d x s
   same-larger b h = go _ _ _ _ refl refl h (answered rule d x s) (answered rule e x s)
     where
       go : (n m : ℕ) (o p : Evaluated × List ℕ) → firstFailed rule d x s ≡ n → firstFailed rule e x s ≡ m → Accepts o → Answered rule d x s n o → Answered rule e x s m p → p ≡ o
       go n m o p i j h (failed k q) r = refuses n x s o h q
-      go n m o p i j h (again z c q) (failed k r) = let y = first-same (passed rule d x s (i ∙ z) .allowed) b in absurd (omega arith)
+      go n m o p i j h (again z c q) (failed k r) = let y = first-same rule x s d e (passed rule d x s (i ∙ z) .allowed) b in absurd (omega arith)
       go n m o p i j h (again z c q) (again _ _ r) = r ∙ sym q
       go n m o p i j h (again z c q) (goes _ k r) = never (sym k ∙ c)
-      go n m o p i j h (goes z c q) (failed k r) = let y = first-same (passed rule d x s (i ∙ z) .allowed) b in absurd (omega arith)
+      go n m o p i j h (goes z c q) (failed k r) = let y = first-same rule x s d e (passed rule d x s (i ∙ z) .allowed) b in absurd (omega arith)
       go n m o p i j h (goes z c q) (again _ k r) = never (sym c ∙ k)
       go n m o p i j h (goes z c q) (goes _ _ r) =
           r ∙ (larger-ruled (ruling rule d x s) refl (λ k v. h k (ap (λ t. t .0 .answer) (q ∙ evaluated-ruled rule d x s) ∙ v)) ∙ sym (q ∙ evaluated-ruled rule d x s))

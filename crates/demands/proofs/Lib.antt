@@ -2,8 +2,12 @@ pub mod Longer
 pub mod Stored
 pub mod Refusals
 pub mod Answers
+pub mod Ruling
+pub mod Demand1
+pub mod Demand2
+pub mod ReportedDepth
 pub mod Holds
 pub mod Live
-pub mod Theorems
+pub mod Demand3
 pub mod Further
 pub mod Printed

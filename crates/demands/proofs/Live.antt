@@ -37,7 +37,8 @@ use Rattle.soundness.proofs.Outcomes.{starts}
 use Rattle.soundness.proofs.Onward.{ran-on, halted-on}
 use Rattle.soundness.proofs.Begun.{opening-means}
 use Rattle.soundness.proofs.Inputs.{EachIn, opening-constant}
-use Rattle.demands.specs.Demands.{allConstants, firstFailed}
+use Rattle.demands.specs.Demand1.{firstFailed}
+use Rattle.demands.specs.Demand3.{allConstants}
 use Rattle.demands.proofs.Longer.{none, adds-on, eval-adds}
 use Rattle.demands.proofs.Answers.{Answered, failed, again, goes, answered, Passed, passed}
 use Rattle.demands.proofs.Holds.{begun, Holds, holds-length, holds-terms}

@@ -6,6 +6,7 @@ use Prim.Native.Nat.{ℕ, _≤_}
 use native.Mathlib.Omega.{arith}
 use lib.ListN.{length, replicate}
 use lib.Count.{ones, onesIn, leadingZeros}
+use Rattle.semantics.specs.Numbers.{mostTable}
 use Rattle.semantics.specs.declared.Outcome.the-variants.{Word, Error}
 use Rattle.notation.specs.Notation as Notation
 use Rattle.operators.specs.Operators as Operators
@@ -27,12 +28,12 @@ use Rattle.semantics.specs.PlainRun as PlainRun
 use Rattle.semantics.specs.History as History
 use Rattle.cases.specs.Table as Table
 use Rattle.cases.specs.Marked as Marked
-use Rattle.demands.specs.Demands.{Stands}
-use Rattle.demands.proofs.Theorems.{demand-3}
+use Rattle.demands.specs.Demand3.{Stands}
+use Rattle.demands.proofs.Demand3.{demand-3}
 
 -- what the definitions compute: the opening and the one call are accepted, and what the run gives
 record Known : Type 0 where
-  opens : Opening.openOf Marked.printedInputs (replicate 1024 0) .0 .refusal ≡ 0
+  opens : Opening.openOf Marked.printedInputs (replicate mostTable 0) .0 .refusal ≡ 0
   accepted : length (Marked.printedDesk .rules) ≡ 1
   count : Marked.printedDesk .session .count ≡ 25
   taken-true : Reading.numbersTaken Marked.printedInputs (Marked.firstNumber 1) ≡ true
@@ -46,7 +47,7 @@ known = record { opens = refl; accepted = refl; count = refl; taken-true = refl;
 
 stands : Stands Marked.printedInputs Marked.printedDesk
 unfolding Table.desk
-stands = demand-3 Marked.printedInputs (replicate 1024 0) refl (known .opens) (Table.call Marked.printedRule 100 ∷ [])
+stands = demand-3 Marked.printedInputs (replicate mostTable 0) refl (known .opens) (Table.call Marked.printedRule 100 ∷ [])
 
 module _ (work : List ℕ) (long : 25 ≤ length work) where
   pub printed-true : Reading.readOf (Marked.printedDesk .session) (Marked.printedDesk .table) (Marked.firstNumber 1) (Marked.printedDesk .result) work ≡ (Word 7, replicate (length work) 0)

@@ -121,3 +121,12 @@ module _ (rule : List ℕ) (b i e : ℕ) (y : State) (z : Setting) (ts : List Te
         go v w (same {u = x} l) p = let n : x ≡ u = cc in absurd (omega arith)
         go v w (deep l) p = refl
         go v w stop p = let n : _≡_ {A = ℕ} 0 1 = cc in absurd (omega arith)
+
+    -- it is 1 or more
+    pub depth-some : 1 ≤ u
+    unfolding evalOf refuse
+    depth-some = go u depth-enough
+      where
+        go : (k : ℕ) → evalOf rule b k i e y z ts ≡ gave us r u → 1 ≤ k
+        go zero p = let n : _≡_ {A = ℕ} 0 1 = cc in absurd (omega arith)
+        go (suc k) p = omega arith

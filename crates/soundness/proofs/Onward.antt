@@ -23,30 +23,31 @@ use Rattle.typing.proofs.Formed.{never}
 use Rattle.typing.proofs.Steps.{Fit}
 use Rattle.typing.proofs.Evaluation.{Ruled}
 use Rattle.depth.proofs.Depth.{depth-enough}
+use Rattle.soundness.proofs.Means.{isProper}
 use Rattle.soundness.proofs.Steps.{Const}
 use Rattle.soundness.proofs.Held.{En}
 use Rattle.soundness.proofs.Sim.{ends, on, afterSeen, on-after, on-off, on-live, ends-same, totalOf, Sim, sim-halt, sim-as}
 use Rattle.soundness.proofs.Readout.{Done, evaluation-at, evaluation-spent}
-use Rattle.soundness.proofs.Scope.{bound, Good, run-agrees}
+use Rattle.soundness.proofs.Scope.{bound, Good, GoodValue, GoodEnd, Agree, run-agrees}
 use Rattle.soundness.proofs.Scoping.{needOf, few-some, scoped}
 
 -- ---- the inputs are truths and words, sixteen of them
 module _ (rule : List ℕ) (n : ℕ) (need : ℕ → ℕ) where
-  input-good : (x : Input) (k : ℕ) → Good rule n need (inputValue x k)
+  input-good : (x : Input) (k : ℕ) → GoodValue rule n need (inputValue x k)
   unfolding inputValue if_equals_then_else_
   input-good x k = go (eqb (x .kind) constantTruth) (eqb (x .kind) constantWord) (eqb (x .kind) freeTruth)
     where
-      go : (a b c : Bool) → Good rule n need (pick a (truth (eqb (x .value) 1)) (pick b (word (x .value)) (pick c (truth (eqb k 1)) (word k))))
-      go true b c = tt
-      go false true c = tt
-      go false false true = tt
-      go false false false = tt
+      go : (a b c : Bool) → GoodValue rule n need (pick a (truth (eqb (x .value) 1)) (pick b (word (x .value)) (pick c (truth (eqb k 1)) (word k))))
+      go true b c = record { proper = refl; good = tt }
+      go false true c = record { proper = refl; good = tt }
+      go false false true = record { proper = refl; good = tt }
+      go false false false = record { proper = refl; good = tt }
 
   inputs-good : (xs : List Input) (ns : List ℕ) → Good rule n need (inputsBound xs ns)
   unfolding inputsBound
   inputs-good [] ns = tt
   inputs-good (x ∷ xs) [] = tt
-  inputs-good (x ∷ xs) (k ∷ ns) = (input-good x k, inputs-good xs ns)
+  inputs-good (x ∷ xs) (k ∷ ns) = let v = input-good x k in (v .proper, v .good, inputs-good xs ns)
 
 inputs-bound : (xs : List Input) (ns : List ℕ) → length xs ≤ length ns → bound (inputsBound xs ns) ≡ length xs
 unfolding inputsBound
@@ -59,12 +60,26 @@ none-needed : (s : List ℕ) → needOf s 0 ≡ 0
 unfolding bindingsBelow
 none-needed s = getD-replicate {A = ℕ} recordLimit 0 0 0 (omega arith)
 
--- A rule that passes the tests runs from the inputs as the concrete run does.
-pub rule-runs : (s : List ℕ) → ruleRefusalOf s ≡ 0 → (xs : List Input) (ns : List ℕ) → length xs ≡ inputCount → inputCount ≤ length ns
-    → (d : ℕ) → totalOf s d 0 (inputsBound xs ns) ≡ runOf s d 0 (inputsBound xs ns)
-rule-runs s h xs ns l m d =
-    let z = none-needed s in let b = inputs-bound xs ns (omega arith) in
-    run-agrees s (recordsIn s) (needOf s) (scoped s h) d 0 (inputsBound xs ns) (few-some s h) (omega arith) (inputs-good s (recordsIn s) (needOf s) xs ns) .same
+-- a rule that passes the tests, run from the inputs
+module _ (s : List ℕ) (h : ruleRefusalOf s ≡ 0) (xs : List Input) (ns : List ℕ) (l : length xs ≡ inputCount) (m : inputCount ≤ length ns) (d : ℕ) where
+  rule-agrees : Agree s (recordsIn s) (needOf s) (totalOf s d 0 (inputsBound xs ns)) (runOf s d 0 (inputsBound xs ns))
+  rule-agrees =
+      let z = none-needed s in let b = inputs-bound xs ns (omega arith) in
+      run-agrees s (recordsIn s) (needOf s) (scoped s h) d 0 (inputsBound xs ns) (few-some s h) (omega arith) (inputs-good s (recordsIn s) (needOf s) xs ns)
+
+  -- It runs as the concrete run does,
+  pub rule-runs : totalOf s d 0 (inputsBound xs ns) ≡ runOf s d 0 (inputsBound xs ns)
+  rule-runs = rule-agrees .same
+
+  -- and gives values alone.
+  pub rule-proper : (v : Value) → runOf s d 0 (inputsBound xs ns) ≡ gives v → isProper v ≡ true
+  rule-proper v e = go _ (rule-agrees .good) e
+    where
+      go : (o : Ended) → GoodEnd s (recordsIn s) (needOf s) o → o ≡ gives v → isProper v ≡ true
+      go (gives w) g q = let i : w ≡ v = cc in ap isProper (sym i) ∙ g .proper
+      go aborts g q = let n : _≡_ {A = ℕ} 0 1 = cc in absurd (omega arith)
+      go errs g q = let n : _≡_ {A = ℕ} 0 1 = cc in absurd (omega arith)
+      go spends g q = let n : _≡_ {A = ℕ} 0 1 = cc in absurd (omega arith)
 
 -- ---- the run so far
 stopped : (s t : Bool) (v : Value) (o : Ended) → (s && t) ≡ false → on s t (gives v) ≡ ends o → (K : Value → Ended) → after o K ≡ o

@@ -1,4 +1,4 @@
--- The run with false at places past the end is the concrete run, for a rule whose places are in scope. Assumes nothing.
+-- The run with false at places past the end is the concrete run, for a rule whose places are in scope, and it gives values alone. Assumes nothing.
 use mathlib.Core.Path.{_≡_, refl, sym, ap, subst, _∙_}
 use mathlib.Core.Bool.{Bool, true, false}
 use mathlib.Core.List.{List}
@@ -11,6 +11,7 @@ use Rattle.operators.specs.Operators.{operandsOf, givesTruthOf, operateOf}
 use Rattle.semantics.specs.Numbers.{variableRecord, procedureRecord, callRecord, operatorRecord, letRecord, ifRecord, wordDatum, trueDatum, notCode, isWordCode, inputCount}
 use Rattle.semantics.specs.Records.{recordAt}
 use Rattle.semantics.specs.Run.{Value, truth, word, procedure, binding, none, Ended, gives, aborts, errs, spends, Running, after, placed, isFalse, isAWord, isAProcedure, wordIn, operationValue, wordsRun, operatorRun, datumValue, callRun, expressionRun, runOf}
+use Rattle.soundness.proofs.Means.{isProper}
 use Rattle.soundness.proofs.Cases.{operated-is, test-run}
 use Rattle.soundness.proofs.Sim.{lookOf, totalExpression, totalOf}
 
@@ -51,16 +52,21 @@ pub record Scoped (rule : List ℕ) (n : ℕ) (need : ℕ → ℕ) : Type 0 wher
   pub no : (i : ℕ) → i < n → recordAt rule i .kind ≡ ifRecord → Under n need (recordAt rule i .r) (need i)
 
 module _ (rule : List ℕ) (n : ℕ) (need : ℕ → ℕ) where
-  -- every procedure in it has a body, and bindings enough for it
+  -- every procedure in it has a body, and bindings enough for it; what is bound is a value
   abbrev pub Good : Value → Type 0
   Good (truth b) = Unit {0}
   Good (word w) = Unit {0}
   Good (procedure i e) = (need (recordAt rule i .p) + inputCount ≤ suc (bound e)) × (recordAt rule i .p < n) × Good e
-  Good (binding v e) = Good v × Good e
+  Good (binding v e) = (isProper v ≡ true) × Good v × Good e
   Good none = Unit {0}
 
+  -- a value, which is no binding and not missing
+  pub record GoodValue (v : Value) : Type 0 where
+    pub proper : isProper v ≡ true
+    pub good : Good v
+
   abbrev pub GoodEnd : Ended → Type 0
-  GoodEnd (gives v) = Good v
+  GoodEnd (gives v) = GoodValue v
   GoodEnd aborts = Unit {0}
   GoodEnd errs = Unit {0}
   GoodEnd spends = Unit {0}
@@ -69,23 +75,23 @@ module _ (rule : List ℕ) (n : ℕ) (need : ℕ → ℕ) where
     pub same : o ≡ p
     pub good : GoodEnd p
 
-  placed-good : (p : ℕ) (e : Value) → p < bound e → Good e → Good (placed p e)
+  placed-good : (p : ℕ) (e : Value) → p < bound e → Good e → GoodValue (placed p e)
   unfolding placed
   placed-good p (truth b) h g = absurd (omega arith)
   placed-good p (word w) h g = absurd (omega arith)
   placed-good p (procedure i e) h g = absurd (omega arith)
-  placed-good zero (binding v e) h g = g .0
-  placed-good (suc p) (binding v e) h g = placed-good p e (omega arith) (g .1)
+  placed-good zero (binding v e) h g = record { proper = g .0; good = g .1 }
+  placed-good (suc p) (binding v e) h g = placed-good p e (omega arith) (g .2)
   placed-good p none h g = absurd (omega arith)
 
   -- ---- operators give truths and words
-  operation-good : (op x y : ℕ) → Good (operationValue op x y)
+  operation-good : (op x y : ℕ) → GoodValue (operationValue op x y)
   unfolding operationValue if_then_else_
   operation-good op x y = go (givesTruthOf op)
     where
-      go : (b : Bool) → Good (pick b (truth (eqb (operateOf op x y) 1)) (word (operateOf op x y)))
-      go true = tt
-      go false = tt
+      go : (b : Bool) → GoodValue (pick b (truth (eqb (operateOf op x y) 1)) (word (operateOf op x y)))
+      go true = record { proper = refl; good = tt }
+      go false = record { proper = refl; good = tt }
 
   operator-good : (op : ℕ) (x y : Value) → GoodEnd (operatorRun op x y)
   unfolding operatorRun if_then_else_ if_equals_then_else_ if_below_then_else_
@@ -94,9 +100,9 @@ module _ (rule : List ℕ) (n : ℕ) (need : ℕ → ℕ) where
       go : (a b c d : Bool) → GoodEnd (pick a (pick b (gives (operationValue op (wordIn x) (wordIn y))) errs) (pick c (gives (truth (isFalse x))) (pick d (gives (truth (isAWord x))) (gives (truth (isAProcedure x))))))
       go true true c d = operation-good op (wordIn x) (wordIn y)
       go true false c d = tt
-      go false b true d = tt
-      go false b false true = tt
-      go false b false false = tt
+      go false b true d = record { proper = refl; good = tt }
+      go false b false true = record { proper = refl; good = tt }
+      go false b false false = record { proper = refl; good = tt }
 
   -- a second operand that there is none of does not matter
   operator-second : (op : ℕ) (x y z : Value) → ((operandsOf op ≡ 1 → ⊥) → y ≡ z) → operatorRun op x y ≡ operatorRun op x z
@@ -106,13 +112,13 @@ module _ (rule : List ℕ) (n : ℕ) (need : ℕ → ℕ) where
       go true e = let l : op < notCode = omega (arith, ltb-true op notCode e) in sym (operated-is op x y y l (λ _. refl)) ∙ operated-is op x y z l q
       go false e = let l : notCode ≤ op = omega (arith, ltb-false op notCode e) in sym (test-run op x y l) ∙ test-run op x z l
 
-  datum-good : (op w : ℕ) → Good (datumValue op w)
+  datum-good : (op w : ℕ) → GoodValue (datumValue op w)
   unfolding datumValue if_equals_then_else_
   datum-good op w = go (eqb op wordDatum)
     where
-      go : (b : Bool) → Good (pick b (word w) (truth (eqb op trueDatum)))
-      go true = tt
-      go false = tt
+      go : (b : Bool) → GoodValue (pick b (word w) (truth (eqb op trueDatum)))
+      go true = record { proper = refl; good = tt }
+      go false = record { proper = refl; good = tt }
 
   -- ---- one way or the other
   record AgreeAt (E : Value) (f g : Running) : Type 0 where
@@ -131,7 +137,7 @@ module _ (rule : List ℕ) (n : ℕ) (need : ℕ → ℕ) where
   agree-if true a b = a
   agree-if false a b = b
 
-  agree-after : {o p : Ended} (K L : Value → Ended) → Agree o p → ((v : Value) → Good v → Agree (K v) (L v)) → Agree (after o K) (after p L)
+  agree-after : {o p : Ended} (K L : Value → Ended) → Agree o p → ((v : Value) → GoodValue v → Agree (K v) (L v)) → Agree (after o K) (after p L)
   unfolding after
   agree-after {o} {p} K L a k = subst (λ u. Agree (after u K) (after p L)) (sym (a .same)) (go p (a .good))
     where
@@ -146,11 +152,11 @@ module _ (rule : List ℕ) (n : ℕ) (need : ℕ → ℕ) where
   Agrees f g = (i : ℕ) (E : Value) → i < n → need i + inputCount ≤ bound E → Good E → Agree (f i E) (g i E)
 
   module _ (scoped : Scoped rule n need) (f g : ℕ → Running) (ih : Agrees f g) where
-    call-agrees : (v u : Value) → Good v → Good u → Agree (callRun f rule v u) (callRun g rule v u)
+    call-agrees : (v u : Value) → Good v → GoodValue u → Agree (callRun f rule v u) (callRun g rule v u)
     unfolding callRun
     call-agrees (truth b) u h k = record { same = refl; good = tt }
     call-agrees (word w) u h k = record { same = refl; good = tt }
-    call-agrees (procedure i e) u h k = ih (recordAt rule i .p) (binding u e) (h .1) (h .0) (k, h .2)
+    call-agrees (procedure i e) u h k = ih (recordAt rule i .p) (binding u e) (h .1) (h .0) (k .proper, k .good, h .2)
     call-agrees (binding v e) u h k = record { same = refl; good = tt }
     call-agrees none u h k = record { same = refl; good = tt }
 
@@ -158,7 +164,7 @@ module _ (rule : List ℕ) (n : ℕ) (need : ℕ → ℕ) where
       place-same : (p : ℕ) → p < need i + inputCount → lookOf p E ≡ placed p E
       place-same p q = look-placed p E (omega arith)
 
-      place-good : (p : ℕ) → p < need i + inputCount → Good (placed p E)
+      place-good : (p : ℕ) → p < need i + inputCount → GoodValue (placed p E)
       place-good p q = placed-good p E (omega arith) k
 
       part : (c : ℕ) → Under n need c (need i) → Agree (f c E) (g c E)
@@ -168,7 +174,7 @@ module _ (rule : List ℕ) (n : ℕ) (need : ℕ → ℕ) where
           → Agree (callRun f rule (lookOf (recordAt rule i .p) E) (lookOf (recordAt rule i .q) E)) (callRun g rule (placed (recordAt rule i .p) E) (placed (recordAt rule i .q) E))
       call-at q =
           rw (place-same _ (scoped .called i l q), place-same _ (scoped .argument i l q))
-          (call-agrees _ _ (place-good _ (scoped .called i l q)) (place-good _ (scoped .argument i l q)))
+          (call-agrees _ _ (place-good _ (scoped .called i l q) .good) (place-good _ (scoped .argument i l q)))
 
       if-at : recordAt rule i .kind ≡ ifRecord
           → Agree ((if isFalse (lookOf (recordAt rule i .p) E) then f (recordAt rule i .r) else f (recordAt rule i .q)) E)
@@ -182,7 +188,7 @@ module _ (rule : List ℕ) (n : ℕ) (need : ℕ → ℕ) where
       expression-at =
           agree-eq _ _ (λ q. record { is = record { same = refl; good = datum-good _ _ } }) (
           agree-eq _ _ (λ q. record { is = record { same = ap gives (place-same _ (scoped .variable i l q)); good = place-good _ (scoped .variable i l q) } }) (
-          agree-eq _ _ (λ q. record { is = record { same = refl; good = let u = scoped .body i l q in let e = u .is in (omega arith, u .low, k) } }) (
+          agree-eq _ _ (λ q. record { is = record { same = refl; good = record { proper = refl; good = let u = scoped .body i l q in let e = u .is in (omega arith, u .low, k) } } }) (
           agree-eq _ _ (λ q. record { is = call-at q }) (
           agree-eq _ _ (λ q. record {
             is = record {
@@ -193,7 +199,7 @@ module _ (rule : List ℕ) (n : ℕ) (need : ℕ → ℕ) where
           }) (
           agree-eq _ _ (λ q. record {
             is = agree-after _ _ (part _ (scoped .given i l q))
-                (λ v w. let u = scoped .inner i l q in let e = u .is in ih _ (binding v E) (u .low) (omega arith) (w, k));
+                (λ v w. let u = scoped .inner i l q in let e = u .is in ih _ (binding v E) (u .low) (omega arith) (w .proper, w .good, k));
           }) (
           agree-eq _ _ (λ q. record { is = if-at q }) (
           agree-eq _ _ (λ q. record { is = record { same = refl; good = tt } }) (record { is = record { same = refl; good = tt } }))))))))

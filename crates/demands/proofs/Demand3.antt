@@ -1,5 +1,5 @@
--- THE THEOREMS: demand 3 of every list of calls from an accepted opening on, and demand 1 of every call. Assumes nothing.
-use mathlib.Core.Path.{_≡_, refl, sym, ap, subst, _∙_}
+-- DEMAND 3, of every list of calls from an accepted opening on. Assumes nothing.
+use mathlib.Core.Path.{_≡_, refl, sym, ap, _∙_}
 use mathlib.Core.Bool.{Bool, true, false, _||_}
 use mathlib.Core.List.{List, [], _∷_}
 use Prim.Native.Nat.{ℕ, _<_, _≤_}
@@ -12,20 +12,16 @@ use Rattle.semantics.specs.declared.Input.{Input}
 use Rattle.semantics.specs.declared.State.{State}
 use Rattle.semantics.specs.declared.Result.{Result}
 use Rattle.semantics.specs.declared.Session.{Session}
-use Rattle.semantics.specs.declared.Answer.{Answer}
-use Rattle.semantics.specs.declared.Answer.the-variants.{Out, Halt, Refused}
+use Rattle.semantics.specs.declared.Answer.the-variants.{Halt, Refused}
 use Rattle.semantics.specs.declared.Outcome.{Outcome}
 use Rattle.semantics.specs.declared.Outcome.the-variants.{Refused as NoOutcome}
-use Rattle.semantics.specs.declared.Evaluated.{Evaluated}
 use Rattle.semantics.specs.Numbers.{inputCount, mostTable, tableSize, badInput, misfit, callTooWide, tableFull, depthSpent}
 use Rattle.semantics.specs.Rules.{every}
 use Rattle.semantics.specs.Terms.{termsIn, imageOf}
 use Rattle.semantics.specs.Steps.{settingOf, Got, gave, refused}
 use Rattle.semantics.specs.Opening.{badTableSize, inputTaken, opening, sessionOf, openRefused, openOf}
-use Rattle.semantics.specs.Evaluation.{evalOf}
-use Rattle.semantics.specs.Answers.{answerOf}
 use Rattle.semantics.specs.Fits.{noFree, fitsOf}
-use Rattle.semantics.specs.Evaluate.{refusedBy, haltedAgain, left, evaluated, evaluateOf}
+use Rattle.semantics.specs.Evaluate.{refusedBy, haltedAgain, left}
 use Rattle.semantics.specs.Reading.{isTrue, nth, readings, numbersTaken, resultTaken, readIn, readOutcome, readOf}
 use Rattle.semantics.specs.Run.{truth, word, procedure, binding, none, Ended, gives, aborts, errs, spends, inputsBound}
 use Rattle.semantics.specs.PlainRun.{valueGiven, endedOutcome}
@@ -35,71 +31,20 @@ use Rattle.typing.proofs.Formed.{never}
 use Rattle.typing.proofs.Later.{fit-later}
 use Rattle.typing.proofs.Ruled.{ruled}
 use Rattle.soundness.proofs.Link.{readingIn, Small, true-same, reading-link}
-use Rattle.soundness.proofs.Outcomes.{reads-as, never-both, not-spent}
+use Rattle.soundness.proofs.Outcomes.{reads-as, never-both, not-spent, gives-proper}
 use Rattle.soundness.proofs.Onward.{ran-at, halted-on, ran-out}
 use Rattle.soundness.proofs.Inputs.{opening-small}
-use Rattle.demands.specs.Demands.{answerTo, oneTrue, allConstants, Stands, Demand3, firstFailed, Ends, value, halt, too-wide, full, spent, Demand1}
+use Rattle.demands.specs.Demand3.{answerTo, oneTrue, allConstants, Stands, Demand3}
 use Rattle.demands.proofs.Longer.{Adds, none as no-more, one}
 use Rattle.demands.proofs.Refusals.{Known, result, eval-known, too-wide as known-wide, full as known-full, spent as known-spent}
-use Rattle.demands.proofs.Answers.{Answered, failed, again, goes, answered, failed-number}
+use Rattle.demands.proofs.Answers.{failed-number}
+use Rattle.demands.proofs.Demand1.{out-refused, refused-same, demand-1}
 use Rattle.demands.proofs.Holds.{begun as opening-begun, holds-fits, holds-terms}
 use Rattle.demands.proofs.Live.{answer, called-refused, Live, live-begun, Said, test, still, out, stop, said, live-called}
 
--- ---- answers that differ
-out-refused : {P : Type 0} (w : Result) (u n : ℕ) → answerOf w u ≡ Refused n → P
-unfolding if_then_else_
-out-refused {P} w u n = go (w .halted)
-  where
-    go : (b : Bool) → pick b (Halt (w .state) u) (Out (w .state) (w .value) u) ≡ Refused n → P
-    go true e = let z : _≡_ {A = ℕ} 0 1 = cc in absurd (omega arith)
-    go false e = let z : _≡_ {A = ℕ} 0 1 = cc in absurd (omega arith)
-
-refused-same : {n m : ℕ} → _≡_ {A = Answer} (Refused n) (Refused m) → n ≡ m
-refused-same e = cc
-
+-- ---- refusals that are the same
 got-same : {A : Type 0} {n m : ℕ} → _≡_ {A = Got A} (refused n) (refused m) → n ≡ m
 got-same e = cc
-
--- ---- demand 1
-module _ (rule : List ℕ) (allowance : ℕ) (x : Session) (s : List ℕ) where
-  ended : (g : Got Result) → evalOf rule (x .accepted) allowance 0 (opening (x .inputs) .environment) (x .state) (settingOf (length s)) (termsIn s (x .count)) ≡ g
-      → Known g → Ends rule allowance x s (left x s g .0 .answer)
-  unfolding refusedBy if_then_else_
-  ended (gave us w u) e result = go (w .halted)
-    where
-      go : (b : Bool) → Ends rule allowance x s (pick b (Halt (w .state) u) (Out (w .state) (w .value) u))
-      go true = halt (w .state) u
-      go false = value (w .state) (w .value) u
-  ended (refused k) e known-wide = too-wide e
-  ended (refused k) e known-full = full e
-  ended (refused k) e known-spent = spent e
-
-  evaluated-ends : Ends rule allowance x s (evaluated rule allowance x s .0 .answer)
-  unfolding evaluated
-  evaluated-ends = ended _ refl (eval-known rule (x .accepted) allowance 0 (opening (x .inputs) .environment) (x .state) (settingOf (length s)) (termsIn s (x .count)))
-
-  again-ends : Ends rule allowance x s (haltedAgain x s .0 .answer)
-  unfolding haltedAgain
-  again-ends = halt (x .state) 1
-
-  -- Every call ends as demand 1 says.
-  pub demand-1 : Demand1 rule allowance x s
-  unfolding refusedBy
-  demand-1 =
-      record {
-        taken = λ z. takes (firstFailed rule allowance x s) (evaluateOf rule allowance x s) z (answered rule allowance x s);
-        refused = λ n e l. refuses (firstFailed rule allowance x s) (evaluateOf rule allowance x s) n e l (answered rule allowance x s);
-      }
-    where
-      takes : (n : ℕ) (o : Evaluated × List ℕ) → n ≡ 0 → Answered rule allowance x s n o → Ends rule allowance x s (o .0 .answer)
-      takes n o z (failed l e) = absurd (omega arith)
-      takes n o z (again i h e) = subst (λ p. Ends rule allowance x s (p .0 .answer)) (sym e) again-ends
-      takes n o z (goes i h e) = subst (λ p. Ends rule allowance x s (p .0 .answer)) (sym e) evaluated-ends
-
-      refuses : (m : ℕ) (o : Evaluated × List ℕ) (n : ℕ) → m ≡ n → 0 < n → Answered rule allowance x s m o → o ≡ refusedBy n x s
-      refuses m o n e l (failed i q) = q ∙ ap (λ k. refusedBy k x s) e
-      refuses m o n e l (again i h q) = absurd (omega arith)
-      refuses m o n e l (goes i h q) = absurd (omega arith)
 
 -- ---- numbers for the free truths
 small-adds : (ns : List ℕ) {r : ℕ} {os ts : List Term} → Small ns os → Adds r os ts → Small ns ts
@@ -256,8 +201,8 @@ module _ (xs : List Input) (sixteen : length xs ≡ inputCount) (good : every in
         go (gives (truth b)) q e = let z : _≡_ {A = ℕ} 0 1 = cc in omega arith
         go (gives (word w)) q e = let z : _≡_ {A = ℕ} 0 1 = cc in omega arith
         go (gives (procedure i v)) q e = let z : _≡_ {A = ℕ} 0 1 = cc in omega arith
-        go (gives (binding v w)) q e = let z : _≡_ {A = ℕ} 0 1 = cc in omega arith
-        go (gives none) q e = let z : _≡_ {A = ℕ} 0 1 = cc in omega arith
+        go (gives (binding v w)) q e = never (gives-proper (read .sim) (read .holds .fit) _ q)
+        go (gives none) q e = never (gives-proper (read .sim) (read .holds .fit) _ q)
         go aborts q e = let z : _≡_ {A = ℕ} 0 1 = cc in omega arith
         go errs q e = let z : _≡_ {A = ℕ} 0 1 = cc in omega arith
         go spends q e = run-unspent q
@@ -265,6 +210,7 @@ module _ (xs : List Input) (sixteen : length xs ≡ inputCount) (good : every in
   stands : Stands xs h
   stands =
       record {
+        further = λ k. demand-1 (k .rule) (k .allowance) (h .session) (h .table);
         taken = λ k. not-misfit k zeros enough;
         untouched = λ k n. leaves k zeros enough n;
         reads = λ some ns work n t long. reads-so ns n t some work long;
