@@ -1,7 +1,7 @@
 -- The terms of the inputs, one input at a time, as `open_from` makes them. Assumes nothing.
-use mathlib.Core.Path.{_≡_, refl, sym, ap, _∙_}
+use mathlib.Core.Path.{_≡_, refl, sym}
 use mathlib.Core.Bool.{Bool, true, false}
-use mathlib.Core.List.{List, [], _∷_}
+use mathlib.Core.List.{List}
 use Prim.Native.Nat.{ℕ, zero, suc, _+_, _-_, _<_, _≤_}
 use native.Mathlib.Omega.{arith}
 use lib.ListN.{length, getD, List·getD-eq-default}
@@ -11,7 +11,7 @@ use Rattle.semantics.specs.declared.Term.{Term}
 use Rattle.semantics.specs.declared.Input.{Input}
 use Rattle.semantics.specs.Numbers.{bindingTerm, noBinding}
 use Rattle.semantics.specs.Terms.{term}
-use Rattle.semantics.specs.Steps.{Make, _>>=_, makeOf}
+use Rattle.semantics.specs.Steps.{makeOf}
 use Rattle.semantics.specs.Rules.{every}
 use Rattle.semantics.specs.Opening.{inputTaken, inputTerm}
 use Rattle.semantics.proofs.Every.{every-all, every-miss}

@@ -1,23 +1,23 @@
 -- What opening leaves, once its terms are made on a table of zeros: the terms of document 01's opening, and zeros after them. Assumes nothing.
 use mathlib.Core.Path.{_≡_, refl, sym, ap, _∙_}
 use mathlib.Core.Bool.{Bool, true, false, not, _||_}
-use mathlib.Core.List.{List, [], _∷_, _++_}
-use Prim.Native.Nat.{ℕ, zero, suc, _+_, _-_, _*_, _/_, _%_, _<_, _≤_}
+use mathlib.Core.List.{List, []}
+use Prim.Native.Nat.{ℕ, zero, _-_, _%_, _≤_}
 use native.Mathlib.Nat.{sub-zero}
 use native.Mathlib.Omega.{arith}
 use lib.ListN.{length, replicate, length-replicate}
 use lib.Dec.{eqb, ltb}
-use borrow.Author.Tests.{eqb-true, eqb-false, ltb-true, ltb-false, eq-eqb}
+use borrow.Author.Tests.{eqb-true, ltb-false}
 use Rattle.notation.specs.Notation.{pick, with, if_then_else_, unless_then_else_}
 use Rattle.semantics.specs.declared.Term.{Term}
 use Rattle.semantics.specs.declared.Input.{Input}
 use Rattle.semantics.specs.declared.Session.{Session}
 use Rattle.semantics.specs.declared.Opened.{Opened}
-use Rattle.semantics.specs.Numbers.{leastTable, mostTable, inputCount, tableSize, badInput}
+use Rattle.semantics.specs.Numbers.{leastTable, mostTable, tableSize, badInput}
 use Rattle.semantics.specs.Terms.{termsIn, imageOf}
 use Rattle.semantics.specs.Rules.{every}
-use Rattle.semantics.specs.Steps.{Got, gave, refused, roomOf, settingOf}
-use Rattle.semantics.specs.Opening.{badTableSize, inputTaken, openingOf, opening, openingFrom, sessionOf, openRefused, openOf}
+use Rattle.semantics.specs.Steps.{Got, gave, refused, settingOf}
+use Rattle.semantics.specs.Opening.{badTableSize, inputTaken, opening, openingFrom, sessionOf, openOf}
 use Rattle.terms.specs.Search.{codeSetting}
 use Rattle.terms.specs.Gives.{shown, Gives, wiped}
 use Rattle.terms.proofs.Laws.{terms-length}

@@ -1,9 +1,9 @@
 -- A table that 1 takes has room for every opening, so that the terms do not depend on its length, nor on the search; and they are well formed.
 -- Assumes nothing.
-use mathlib.Core.Path.{_≡_, refl, sym, ap, _∙_}
+use mathlib.Core.Path.{_≡_, refl}
 use mathlib.Core.Bool.{Bool, true, false, or-true}
 use mathlib.Core.List.{List, [], _∷_}
-use Prim.Native.Nat.{ℕ, zero, suc, _+_, _<_, _≤_}
+use Prim.Native.Nat.{ℕ, _+_, _<_, _≤_}
 use native.Mathlib.Omega.{arith}
 use lib.ListN.{length}
 use lib.Dec.{eqb, ltb}
@@ -11,13 +11,13 @@ use borrow.Author.Tests.{ltb-true, lt-ltb}
 use Rattle.notation.specs.Notation.{pick, if_then_else_, if_equals_then_else_}
 use Rattle.semantics.specs.declared.Term.{Term}
 use Rattle.semantics.specs.declared.Input.{Input}
-use Rattle.semantics.specs.Numbers.{constantTruth, constantWord, freeTruth, freeWord, truthTerm, wordTerm, freeTruthTerm, freeWordTerm, bindingTerm, noBinding, inputCount, mostTable, falseNumber, trueNumber, tableFull}
+use Rattle.semantics.specs.Numbers.{constantTruth, constantWord, freeTruth, truthTerm, wordTerm, freeTruthTerm, freeWordTerm, bindingTerm, noBinding, inputCount, mostTable}
 use Rattle.semantics.specs.Terms.{term, at, findOf, sortOf, laidOut, wellFormed}
 use Rattle.semantics.specs.Rules.{every}
-use Rattle.semantics.specs.Steps.{Setting, settingOf, roomOf, Got, gave, refused, Make, deeper, next, _>>=_, give, makeOf}
+use Rattle.semantics.specs.Steps.{settingOf, roomOf, Got, gave, Make, deeper, next, _>>=_, give, makeOf}
 use Rattle.semantics.specs.Opening.{inputTaken, inputTerm}
-use Rattle.terms.specs.Search.{findAbove, codeSetting}
-use Rattle.typing.proofs.Grown.{Grown, still, more, grown-on, at-newest, Sort, Value, sort-grown, value-grown, value-of, binding-named}
+use Rattle.terms.specs.Search.{codeSetting}
+use Rattle.typing.proofs.Grown.{Grown, still, more, grown-on, at-newest, Sort, Value, value-grown, value-of, binding-named}
 use Rattle.typing.proofs.Formed.{never, by-test, There, find-there, find-same}
 use Rattle.typing.proofs.Factory.{there-sort, binding-sort}
 use Rattle.opening.specs.Openings.{openFrom, openAll}

@@ -1,15 +1,13 @@
 -- Evaluating a rule in a session (document 01, "Evaluate"): what the operation answers, and what it leaves. Assumes nothing.
 use Prim.Native.Nat.{ℕ, _+_}
-use mathlib.Core.Bool.{Bool, true, false, _||_}
-use mathlib.Core.List.{List, [], _∷_}
+use mathlib.Core.Bool.{Bool, _||_}
+use mathlib.Core.List.{List}
 use lib.Dec.{eqb, ltb, leb}
 use lib.ListN.{length}
 use Rattle.notation.specs.Notation.{with, if_then_else_, if_below_then_else_, unless_then_else_}
-use Rattle.semantics.specs.declared.Term.{Term}
 use Rattle.semantics.specs.declared.Result.{Result}
 use Rattle.semantics.specs.declared.Session.{Session}
-use Rattle.semantics.specs.declared.Answer.{Answer}
-use Rattle.semantics.specs.declared.Answer.the-variants.{Out, Halt, Refused}
+use Rattle.semantics.specs.declared.Answer.the-variants.{Halt, Refused}
 use Rattle.semantics.specs.declared.Evaluated.{Evaluated}
 use Rattle.semantics.specs.Numbers.{misfit, badAllowance, rulesSpent, allowanceLimit, ruleLimit}
 use Rattle.semantics.specs.Rules.{ruleRefusalOf}

@@ -1,7 +1,6 @@
 -- Evaluating an expression and applying a procedure (document 01, "Evaluation"). An expression is a record's number; `run` evaluates its parts.
 -- Assumes nothing.
 use Prim.Native.Nat.{ℕ, zero, suc}
-use mathlib.Core.Bool.{Bool, true, false}
 use mathlib.Core.List.{List, [], _∷_, _++_}
 use Rattle.notation.specs.Notation.{with, if_then_else_, if_equals_then_else_, if_below_then_else_}
 use Rattle.operators.specs.Operators.{operandsOf}

@@ -1,9 +1,7 @@
 -- The factory (document 01, "Terms"). Terms are made inner first and left before right. Assumes nothing.
 use Prim.Native.Nat.{ℕ}
-use mathlib.Core.List.{List}
-use Rattle.notation.specs.Notation.{with, if_then_else_, if_equals_then_else_, if_below_then_else_}
+use Rattle.notation.specs.Notation.{with, if_then_else_, if_equals_then_else_}
 use Rattle.operators.specs.Operators.{operandsOf, givesTruthOf, operateOf}
-use Rattle.semantics.specs.declared.Term.{Term}
 use Rattle.semantics.specs.Numbers.{truthTerm, wordTerm, operatorTerm, choiceTerm, procedureTerm, isWordCode, isProcedureCode, negationCode, conjunctionCode, disjunctionCode, truthCode, falseNumber, trueNumber}
 use Rattle.semantics.specs.Terms.{term, at, sortOf}
 use Rattle.semantics.specs.Steps.{Make, _>>=_, give, makeOf, look, seen, reads}

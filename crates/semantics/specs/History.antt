@@ -1,6 +1,6 @@
 -- A list of evaluations from an opening on, and the run of the rules that were accepted (document 01, "The concrete run"). Assumes nothing.
 use Prim.Native.Nat.{ℕ}
-use mathlib.Core.Bool.{Bool, true, false}
+use mathlib.Core.Bool.{false}
 use mathlib.Core.List.{List, [], _∷_, _++_}
 use Rattle.semantics.specs.declared.Input.{Input}
 use Rattle.semantics.specs.declared.Result.{Result}
@@ -10,9 +10,8 @@ use Rattle.semantics.specs.declared.Answer.the-variants.{Out, Halt, Refu
 use Rattle.semantics.specs.declared.Opened.{Opened}
 use Rattle.semantics.specs.declared.Evaluated.{Evaluated}
 use Rattle.semantics.specs.Numbers.{trueNumber}
-use Rattle.semantics.specs.Opening.{openOf}
 use Rattle.semantics.specs.States.{stateOf, haltOf}
-use Rattle.semantics.specs.Answers.{resultIn, depthIn}
+use Rattle.semantics.specs.Answers.{resultIn}
 use Rattle.semantics.specs.Evaluate.{evaluateOf}
 use Rattle.semantics.specs.Run.{Value, truth, Ended, gives, after, runOf, inputsBound}
 

@@ -1,6 +1,6 @@
 -- Merging guarded results over a state (document 01, "Evaluation", "Merge"). Assumes nothing.
 use Prim.Native.Nat.{ℕ}
-use mathlib.Core.Bool.{Bool, true, false}
+use mathlib.Core.Bool.{true, false}
 use mathlib.Core.List.{List, [], _∷_}
 use Rattle.notation.specs.Notation.{if_then_else_}
 use Rattle.semantics.specs.declared.Found.{Found}

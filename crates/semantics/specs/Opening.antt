@@ -1,5 +1,5 @@
 -- Opening a session (document 01, "Opening" and "Open"). Assumes nothing.
-use Prim.Native.Nat.{ℕ, zero, suc, _+_, _%_}
+use Prim.Native.Nat.{ℕ, suc, _%_}
 use mathlib.Core.Bool.{Bool, true, false, not, _||_}
 use mathlib.Core.List.{List, [], _∷_}
 use lib.Dec.{eqb, ltb}
@@ -9,10 +9,10 @@ use Rattle.semantics.specs.declared.Term.{Term}
 use Rattle.semantics.specs.declared.Input.{Input}
 use Rattle.semantics.specs.declared.Session.{Session}
 use Rattle.semantics.specs.declared.Opened.{Opened}
-use Rattle.semantics.specs.Numbers.{constantTruth, constantWord, freeTruth, freeWord, truthTerm, wordTerm, freeTruthTerm, freeWordTerm, bindingTerm, noBinding, falseNumber, trueNumber, leastTable, mostTable, tableSize, badInput}
+use Rattle.semantics.specs.Numbers.{constantTruth, constantWord, freeTruth, freeWord, truthTerm, wordTerm, freeTruthTerm, freeWordTerm, bindingTerm, noBinding, trueNumber, leastTable, mostTable, tableSize, badInput}
 use Rattle.semantics.specs.Terms.{term, imageOf}
 use Rattle.semantics.specs.Rules.{every}
-use Rattle.semantics.specs.Steps.{Setting, settingOf, Got, gave, refused, Make, _>>=_, _▹_, give, makeOf}
+use Rattle.semantics.specs.Steps.{settingOf, Got, gave, refused, Make, _>>=_, _▹_, give, makeOf}
 
 -- ---- 1: "table bytes not a multiple of 8, below 272 or above 65,536"
 unfoldable pub badTableSize : ℕ → Bool

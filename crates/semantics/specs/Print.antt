@@ -1,7 +1,7 @@
 -- The printing program (document 01, "The printed case"): the lines that it prints for its input. Assumes nothing.
 use Prim.Native.Nat.{ℕ, zero, suc, _+_, _*_, _-_}
-use mathlib.Core.Bool.{Bool, true, false, _&&_}
-use mathlib.Core.List.{List, [], _∷_, _++_}
+use mathlib.Core.Bool.{Bool, _&&_}
+use mathlib.Core.List.{List, [], _∷_}
 use lib.Dec.{eqb, leb}
 use lib.ListN.{getD, drop, length, replicate}
 use Rattle.notation.specs.Notation.{with, if_then_else_, if_equals_then_else_}

@@ -3,7 +3,7 @@ use Prim.Native.Nat.{ℕ, zero, suc}
 use mathlib.Core.Bool.{Bool, true, false, not}
 use mathlib.Core.List.{List, [], _∷_}
 use lib.Dec.{eqb}
-use Rattle.notation.specs.Notation.{with, if_then_else_, if_equals_then_else_, if_below_then_else_}
+use Rattle.notation.specs.Notation.{if_then_else_, if_equals_then_else_, if_below_then_else_}
 use Rattle.operators.specs.Operators.{operandsOf, givesTruthOf, operateOf}
 use Rattle.semantics.specs.declared.Record.{Record}
 use Rattle.semantics.specs.declared.Input.{Input}

@@ -1,7 +1,6 @@
 -- Steps that make terms, one after another (document 01, "Terms"): of the terms that there are, a step gives those that there are then, an
 -- answer, and the depth that it used; or it is refused. Assumes nothing.
 use Prim.Native.Nat.{ℕ, _+_, _/_, min, max}
-use mathlib.Core.Bool.{Bool, true, false}
 use mathlib.Core.List.{List, [], _∷_}
 use lib.Dec.{ltb}
 use lib.ListN.{length}

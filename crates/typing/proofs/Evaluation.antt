@@ -1,34 +1,30 @@
 -- Evaluating an expression of a rule that 5 takes, from a fitting table, gives a result of its kinds. Assumes nothing.
-use mathlib.Core.Path.{_≡_, refl, sym, ap, _∙_}
+use mathlib.Core.Path.{_≡_, refl}
 use mathlib.Core.Bool.{Bool, true, false}
 use mathlib.Core.List.{List, [], _∷_, _++_}
 use Prim.Native.Nat.{ℕ, zero, suc, _+_, _<_, _≤_}
 use native.Mathlib.Omega.{arith}
-use lib.ListN.{length}
 use lib.Dec.{eqb}
-use borrow.Author.Tests.{eqb-true, eqb-false, eq-eqb, ne-eqb}
+use borrow.Author.Tests.{eqb-true, eq-eqb, ne-eqb}
 use Rattle.notation.specs.Notation.{pick, with, if_then_else_, if_equals_then_else_}
-use Rattle.operators.specs.Operators.{operandsOf, givesTruthOf}
-use Rattle.semantics.specs.declared.Record.{Record}
+use Rattle.operators.specs.Operators.{givesTruthOf}
 use Rattle.semantics.specs.declared.Term.{Term}
 use Rattle.semantics.specs.declared.State.{State}
-use Rattle.semantics.specs.declared.Result.{Result}
 use Rattle.semantics.specs.declared.Leaf.{Leaf}
 use Rattle.semantics.specs.declared.Branch.{Branch}
-use Rattle.semantics.specs.Numbers.{operatorRecord, procedureRecord, truthTerm, wordTerm, freeTruthTerm, freeWordTerm, operatorTerm, choiceTerm, procedureTerm, bindingTerm, notCode, isWordCode, noBinding, falseNumber, trueNumber, datumRecord, recordLimit, termLimit, depthSpent, wordDatum}
+use Rattle.semantics.specs.Numbers.{operatorRecord, procedureRecord, truthTerm, wordTerm, freeTruthTerm, freeWordTerm, operatorTerm, choiceTerm, procedureTerm, bindingTerm, notCode, noBinding, trueNumber, datumRecord, recordLimit, depthSpent, wordDatum}
 use Rattle.semantics.specs.Records.{recordAt}
 use Rattle.semantics.specs.Terms.{term, blank, at, sortOf}
-use Rattle.semantics.specs.Steps.{Make, _>>=_, _▹_, give, each, reads, makeOf}
-use Rattle.semantics.specs.States.{outOf, haltOf}
-use Rattle.semantics.specs.Merge.{branchOf, mergeOf}
-use Rattle.semantics.specs.Walk.{aimOf}
+use Rattle.semantics.specs.Steps.{Make, _▹_, give, each}
+use Rattle.semantics.specs.States.{outOf}
+use Rattle.semantics.specs.Merge.{branchOf}
 use Rattle.semantics.specs.Evaluation.{Run, placeOf, datumOf, procedureOf, abortOf, errorOf, wordsOf, operationOf, testOf, operatorOf, secondOf, underOf, letOf, Fork, forkOf, branchesOf, bothOf, ifOf, applyOf, targetOf, targetsOf, callOf, expressionOf, liveOf, evalOf}
-use Rattle.typing.proofs.Grown.{Grown, still, grown-on, at-past, Sort, Value, sort-grown, value-grown, value-of}
-use Rattle.typing.proofs.Formed.{never, by-test, Laid, laid-at, binding-value, binding-next}
-use Rattle.typing.proofs.Steps.{Fit, Does, Every, every-grown, does-give, does-refuse, does-then, does-map, does-weaken, does-read, does-with, does-if, does-eq, does-below, does-up, does-make, does-each}
+use Rattle.typing.proofs.Grown.{grown-on, at-past, Sort, Value, sort-grown, value-grown, value-of}
+use Rattle.typing.proofs.Formed.{Laid, laid-at, binding-value, binding-next}
+use Rattle.typing.proofs.Steps.{Fit, Does, Every, every-grown, does-give, does-refuse, does-then, does-map, does-read, does-with, does-if, does-eq, does-below, does-up}
 use Rattle.typing.proofs.Factory.{Truth, operands-grown, true-truth, false-truth, false-value, truth-value, laid-binding, laid-procedure, Operands, procedure-sort, binding-sort, makes, not-does, and-does, truth-does, is-word-does, is-procedure-does, word-does, operator-does}
 use Rattle.typing.proofs.States.{Stated, Resulted, stated-grown, halted, given, assume-does, assert-does}
-use Rattle.typing.proofs.Walk.{Leafed, leafed-grown, Aimed, aim-does}
+use Rattle.typing.proofs.Walk.{Leafed, leafed-grown, aim-does}
 use Rattle.typing.proofs.Merge.{Branched, branched-grown, branched, merge-does}
 
 abbrev pub Bound : List Term → ℕ → Type 0

@@ -1,22 +1,20 @@
 -- The factory makes terms of their kinds: from truths truths, from values values. Assumes nothing.
 use mathlib.Core.Path.{_≡_, refl, sym, ap, _∙_}
 use mathlib.Core.Bool.{Bool, true, false, _&&_, or-true}
-use mathlib.Core.List.{List, [], _∷_}
-use Prim.Native.Nat.{ℕ, zero, suc, _<_, _≤_}
-use native.Mathlib.Omega.{arith}
-use lib.ListN.{length}
+use mathlib.Core.List.{List}
+use Prim.Native.Nat.{ℕ, _<_}
 use lib.Dec.{eqb, ltb}
-use borrow.Author.Tests.{eqb-true, eqb-false, eq-eqb, ne-eqb, lt-ltb, le-ltb}
+use borrow.Author.Tests.{eqb-true, eqb-false, ne-eqb, lt-ltb}
 use Rattle.notation.specs.Notation.{pick, bit, with, if_then_else_, if_equals_then_else_, if_below_then_else_}
 use Rattle.operators.specs.Operators.{operandsOf, givesTruthOf, rowOf, operateOf}
 use Rattle.semantics.specs.declared.Term.{Term}
 use Rattle.semantics.specs.Numbers.{truthTerm, wordTerm, operatorTerm, choiceTerm, procedureTerm, bindingTerm, notCode, isWordCode, isProcedureCode, negationCode, conjunctionCode, disjunctionCode, truthCode, falseNumber, trueNumber, recordLimit, noBinding}
-use Rattle.semantics.specs.Terms.{term, at, sortOf, knownOf, namesTruth, namesChoice, namesBinding, namesValue, operandsLaidOut, laidOut}
-use Rattle.semantics.specs.Steps.{Make, _>>=_, give, reads, makeOf}
+use Rattle.semantics.specs.Terms.{term, at, sortOf, namesValue, operandsLaidOut, laidOut}
+use Rattle.semantics.specs.Steps.{give, makeOf}
 use Rattle.semantics.specs.Factory.{notOf, andOf, orOf, impliesOf, choiceOf, truthOf, isWordOf, isProcedureOf, constantOf, operatorTermOf}
 use Rattle.typing.proofs.Grown.{Grown, Sort, Value, sort-grown, value-grown, value-of, sort-at, truth-named, choice-named, binding-named}
 use Rattle.typing.proofs.Formed.{never, There}
-use Rattle.typing.proofs.Steps.{Lies, Fit, Does, does-give, does-then, does-weaken, does-read, does-with, does-if, does-eq, does-below, does-make}
+use Rattle.typing.proofs.Steps.{Lies, Fit, Does, does-give, does-then, does-weaken, does-read, does-with, does-if, does-eq, does-make}
 
 abbrev pub Truth : List Term → ℕ → Type 0
 Truth ts x = Sort truthTerm ts x

@@ -3,19 +3,18 @@
 use mathlib.Core.Path.{_≡_, refl, sym, ap, _∙_}
 use mathlib.Core.Bool.{Bool, true, false, not, _&&_, _||_}
 use mathlib.Core.List.{List, [], _∷_}
-use Prim.Native.Nat.{ℕ, zero, suc, _+_, _<_, _≤_, max}
+use Prim.Native.Nat.{ℕ, zero, _+_, _<_, _≤_, max}
 use native.Mathlib.Omega.{arith}
 use lib.ListN.{length}
 use lib.Dec.{eqb, ltb}
-use borrow.Author.Tests.{eqb-true, eqb-false, eq-eqb, ne-eqb, ltb-true, ltb-false, lt-ltb, le-ltb}
-use Rattle.notation.specs.Notation.{pick, with, if_then_else_, if_equals_then_else_, if_below_then_else_}
+use borrow.Author.Tests.{eqb-true, eqb-false, ltb-true}
+use Rattle.notation.specs.Notation.{pick, with, if_equals_then_else_, if_below_then_else_}
 use Rattle.operators.specs.Operators.{operandsOf}
 use Rattle.semantics.specs.declared.Term.{Term}
-use Rattle.semantics.specs.declared.Found.{Found}
-use Rattle.semantics.specs.Numbers.{truthTerm, wordTerm, choiceTerm, procedureTerm, bindingTerm, operatorTerm, noBinding, recordLimit, notCode, isWordCode, isProcedureCode, negationCode, conjunctionCode, disjunctionCode, truthCode}
-use Rattle.semantics.specs.Terms.{at, sameOf, findOf, sortOf, namesTruth, namesChoice, namesBinding, namesValue, operandsLaidOut, laidOut, wellFormed}
+use Rattle.semantics.specs.Numbers.{truthTerm, choiceTerm, procedureTerm, bindingTerm, operatorTerm, noBinding, recordLimit, notCode, isWordCode, isProcedureCode, negationCode, conjunctionCode, disjunctionCode, truthCode}
+use Rattle.semantics.specs.Terms.{at, sameOf, findOf, namesTruth, namesChoice, namesBinding, namesValue, operandsLaidOut, laidOut, wellFormed}
 use Rattle.terms.specs.Search.{floorOf, missing, findFrom, findAbove}
-use Rattle.typing.proofs.Grown.{Grown, still, more, grown-on, grown-length, at-lower, at-newest, at-grown, Sort, Value, sort-grown, value-grown, sort-at, value-at, truth-at, choice-at, binding-at}
+use Rattle.typing.proofs.Grown.{Grown, still, more, at-lower, at-newest, Sort, Value, value-at, truth-at, choice-at, binding-at}
 
 -- ---- tests that hold
 pub never : {P : Type 0} → _≡_ {A = Bool} false true → P

@@ -1,15 +1,15 @@
 -- A table that grew: older terms stay as they are. What a number names, by its sort. Assumes nothing.
 use mathlib.Core.Path.{_≡_, refl, sym, ap, _∙_}
-use mathlib.Core.Bool.{Bool, true, false, not, _&&_}
+use mathlib.Core.Bool.{Bool, true, false}
 use mathlib.Core.List.{List, [], _∷_}
-use Prim.Native.Nat.{ℕ, zero, suc, _<_, _≤_}
+use Prim.Native.Nat.{ℕ, _<_, _≤_}
 use native.Mathlib.Omega.{arith}
 use lib.ListN.{length}
 use lib.Dec.{eqb, ltb}
 use borrow.Author.Tests.{eqb-true, eqb-false, eq-eqb, ltb-true, ltb-false}
-use Rattle.notation.specs.Notation.{pick, with, if_then_else_, if_equals_then_else_}
+use Rattle.notation.specs.Notation.{pick, with, if_equals_then_else_}
 use Rattle.semantics.specs.declared.Term.{Term}
-use Rattle.semantics.specs.Numbers.{truthTerm, wordTerm, choiceTerm, procedureTerm, bindingTerm}
+use Rattle.semantics.specs.Numbers.{truthTerm, choiceTerm, bindingTerm}
 use Rattle.semantics.specs.Terms.{blank, at, sortOf, namesTruth, namesChoice, namesBinding, namesValue}
 
 pub data Grown (ts : List Term) : List Term → Type 0 where

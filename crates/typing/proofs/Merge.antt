@@ -1,5 +1,5 @@
 -- A merge of branches of their kinds is a result of its kinds. Assumes nothing.
-use mathlib.Core.Path.{_≡_, refl}
+use mathlib.Core.Path.{_≡_}
 use mathlib.Core.Bool.{Bool, true, false}
 use mathlib.Core.List.{List, [], _∷_}
 use Prim.Native.Nat.{ℕ}
@@ -9,9 +9,9 @@ use Rattle.semantics.specs.declared.Found.{Found}
 use Rattle.semantics.specs.declared.State.{State}
 use Rattle.semantics.specs.declared.Result.{Result}
 use Rattle.semantics.specs.declared.Branch.{Branch}
-use Rattle.semantics.specs.Steps.{Make, _>>=_, _▹_, give, each}
+use Rattle.semantics.specs.Steps.{give, each}
 use Rattle.semantics.specs.Merge.{branchOf, assumedStep, assertedStep, mergeStatesOf, valueStepOf, mergeValuesOf, finishOf, mergeOf}
-use Rattle.typing.proofs.Grown.{Grown, Sort, Value, sort-grown, value-grown}
+use Rattle.typing.proofs.Grown.{Grown, Value, sort-grown, value-grown}
 use Rattle.typing.proofs.Steps.{Fit, Does, Every, every-grown, does-give, does-then, does-map, does-read, does-if, does-each}
 use Rattle.typing.proofs.Factory.{Truth, choice-does}
 use Rattle.typing.proofs.States.{Stated, Resulted, stated-grown, halted, given, merge-assumed-does, merge-asserted-does}

@@ -1,16 +1,13 @@
 -- States and results of their kinds; assuming, asserting and the merging steps keep them. Assumes nothing.
-use mathlib.Core.Path.{_≡_, refl}
-use mathlib.Core.Bool.{Bool, true, false}
-use mathlib.Core.List.{List, [], _∷_}
+use mathlib.Core.Bool.{false}
+use mathlib.Core.List.{List}
 use Prim.Native.Nat.{ℕ}
 use Rattle.semantics.specs.declared.Term.{Term}
 use Rattle.semantics.specs.declared.State.{State}
 use Rattle.semantics.specs.declared.Result.{Result}
-use Rattle.semantics.specs.Steps.{Make, _>>=_, _▹_}
-use Rattle.semantics.specs.Factory.{andOf, impliesOf}
-use Rattle.semantics.specs.States.{stateOf, mergeAssumedOf, mergeAssertedOf, assumeOf, assertOf, haltsOf, outOf, haltOf}
-use Rattle.typing.proofs.Grown.{Grown, Sort, Value, sort-grown, value-grown}
-use Rattle.typing.proofs.Steps.{Fit, Does, does-give, does-then, does-map, does-read, does-if}
+use Rattle.semantics.specs.States.{mergeAssumedOf, mergeAssertedOf, assumeOf, assertOf, outOf, haltOf}
+use Rattle.typing.proofs.Grown.{Grown, Value, sort-grown}
+use Rattle.typing.proofs.Steps.{Fit, Does, does-then, does-map}
 use Rattle.typing.proofs.Factory.{Truth, false-value, and-does, implies-does}
 
 pub record Stated (ts : List Term) (x : State) : Type 0 where

@@ -1,21 +1,20 @@
 -- What a step leaves: a table that grew and is well formed, with an answer of which Q holds; and the same with the code's search as with
 -- document 01's. A rule for each form of a step. Assumes nothing.
-use mathlib.Core.Path.{_≡_, refl, sym, ap, _∙_}
-use mathlib.Core.Bool.{Bool, true, false, not, _&&_}
+use mathlib.Core.Path.{_≡_, refl, _∙_}
+use mathlib.Core.Bool.{Bool, true, false, not}
 use mathlib.Core.List.{List, [], _∷_}
-use Prim.Native.Nat.{ℕ, zero, suc, _+_, _<_, _≤_, max}
+use Prim.Native.Nat.{ℕ, _<_, _≤_}
 use native.Mathlib.Omega.{arith}
 use lib.ListN.{length}
 use lib.Dec.{eqb, ltb}
 use borrow.Author.Tests.{eqb-true, eqb-false, ltb-true, ltb-false}
 use Rattle.notation.specs.Notation.{pick, with, if_then_else_, if_equals_then_else_, if_below_then_else_}
 use Rattle.semantics.specs.declared.Term.{Term}
-use Rattle.semantics.specs.declared.Found.{Found}
 use Rattle.semantics.specs.Numbers.{truthTerm, falseNumber, trueNumber, termLimit, tableFull}
 use Rattle.semantics.specs.Terms.{term, at, findOf, laidOut, wellFormed}
-use Rattle.semantics.specs.Steps.{Setting, settingOf, roomOf, Got, gave, refused, Make, deeper, next, _>>=_, _▹_, give, refuse, each, reads, up, upOf, makeOf}
-use Rattle.terms.specs.Search.{findAbove, codeSetting}
-use Rattle.typing.proofs.Grown.{Grown, still, more, grown-on, grown-length, at-lower, at-newest, at-grown}
+use Rattle.semantics.specs.Steps.{settingOf, roomOf, Got, gave, refused, Make, deeper, next, _>>=_, _▹_, give, refuse, each, reads, up, upOf, makeOf}
+use Rattle.terms.specs.Search.{codeSetting}
+use Rattle.typing.proofs.Grown.{Grown, still, more, grown-on, grown-length, at-newest, at-grown}
 use Rattle.typing.proofs.Formed.{There, find-there, find-same}
 
 -- a term that is laid out over a table

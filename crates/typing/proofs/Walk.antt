@@ -1,15 +1,14 @@
 -- The walk of a call's choices finds leaves of their kinds. Assumes nothing.
-use mathlib.Core.Path.{_≡_, refl, ap, _∙_}
-use mathlib.Core.Bool.{Bool, true, false}
+use mathlib.Core.Path.{_≡_}
+use mathlib.Core.Bool.{true, false}
 use mathlib.Core.List.{List, [], _∷_, _++_}
-use Prim.Native.Nat.{ℕ, zero, suc, _<_}
-use lib.ListN.{length}
+use Prim.Native.Nat.{ℕ, zero, suc}
 use Rattle.semantics.specs.declared.Term.{Term}
 use Rattle.semantics.specs.declared.State.{State}
 use Rattle.semantics.specs.declared.Leaf.{Leaf}
-use Rattle.semantics.specs.Numbers.{choiceTerm, procedureTerm, bindingTerm, truthTerm, leafLimit, termLimit, callTooWide, falseNumber, trueNumber}
+use Rattle.semantics.specs.Numbers.{procedureTerm, bindingTerm, termLimit, callTooWide, falseNumber, trueNumber}
 use Rattle.semantics.specs.Terms.{at}
-use Rattle.semantics.specs.Steps.{Make, _>>=_, _▹_, give, refuse, each}
+use Rattle.semantics.specs.Steps.{give, refuse, each}
 use Rattle.semantics.specs.Walk.{leafOf, Walk, sideOf, leftSideOf, rightSideOf, sidesOf, nodeOf, walkOf, orTargetOf, Aim, aimOf}
 use Rattle.typing.proofs.Grown.{Grown, Sort, Value, sort-grown, value-grown}
 use Rattle.typing.proofs.Formed.{Laid, laid-at, choice-names, procedure-names}

@@ -1,5 +1,4 @@
 -- The leaves that a walk has found, as they lie in lent numbers, and what code that walks promises. Assumes nothing.
-use mathlib.Core.Path.{_≡_}
 use Prim.Native.Nat.{ℕ, zero, suc, _+_, _*_, _%_, _≤_}
 use mathlib.Core.List.{List, [], _∷_, _++_}
 use lib.ListN.{getD}

@@ -1,12 +1,11 @@
 -- Laws of words, for every width k: what the operators give is a word, and how they wrap. Assumes nothing.
-use mathlib.Core.Path.{_≡_, refl, ap, sym, subst⁻¹, _∙_}
-use Prim.Native.Nat.{ℕ, zero, suc, _+_, _-_, _*_, _/_, _%_, _^_, _<_, _≤_}
+use mathlib.Core.Path.{_≡_, ap, subst⁻¹, _∙_}
+use Prim.Native.Nat.{ℕ, zero, _+_, _-_, _*_, _%_, _^_, _<_}
 use native.Mathlib.Nat.{add-comm, mul-comm, le-of-lt, lt-of-le-of-lt, mul-le-mul-left, mul-lt-mul-of-pos-right, mod-lt, mod-self, mod-eq-of-lt, mod-add-mod, add-mod-right}
 use native.Mathlib.Omega.{arith}
-use lib.Bits.{and-lt, or-lt, xor-lt}
 use lib.Count.{leading-of-zero}
-use lib.Pow.{pow-pos, pow-add, pow-lt, shr-le}
-use Rattle.words.specs.Words.{sumOf, differenceOf, productOf, andOf, orOf, xorOf, leftOf, rightOf, zerosOf}
+use lib.Pow.{pow-pos, pow-add, shr-le}
+use Rattle.words.specs.Words.{sumOf, differenceOf, productOf, leftOf, rightOf, zerosOf}
 
 module _ (k : ℕ) where
   -- what is taken modulo 2 ^ k is a word
