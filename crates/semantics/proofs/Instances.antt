@@ -12,22 +12,10 @@ use Rattle.semantics.specs.declared.Reading.{Reading as Read}
 use Rattle.semantics.specs.declared.Outcome.{Outcome}
 use Rattle.semantics.specs.declared.Outcome.the-variants.{Truth, Word, Error, Refused}
 use Rattle.semantics.specs.Numbers.{datumRecord, variableRecord, procedureRecord, callRecord, letRecord, ifRecord, abortRecord, errorRecord, falseDatum, wordDatum, wordTerm, procedureTerm, constantTruth, freeTruth, storeFull}
-use Rattle.notation.specs.Notation as Notation
-use Rattle.operators.specs.Operators as Operators
-use Rattle.semantics.specs.Records as Records
-use Rattle.semantics.specs.Rules as Rules
+use Rattle.semantics.proofs.Computing.{computing}
 use Rattle.semantics.specs.Terms as Terms
-use Rattle.semantics.specs.Steps as Steps
-use Rattle.semantics.specs.Factory as Factory
 use Rattle.semantics.specs.Opening as Opening
-use Rattle.semantics.specs.States as States
-use Rattle.semantics.specs.Walk as Walk
-use Rattle.semantics.specs.Merge as Merge
-use Rattle.semantics.specs.Evaluation as Evaluation
-use Rattle.semantics.specs.Fits as Fits
-use Rattle.semantics.specs.Evaluate as Evaluate
 use Rattle.semantics.specs.Reading as Reading
-use Rattle.semantics.specs.Run as Run
 use Rattle.semantics.specs.PlainRun as PlainRun
 use Rattle.semantics.specs.History as History
 
@@ -134,7 +122,7 @@ pub record Instances : Type 0 where
   pub eleven-accepted : desk (replicate 11 (bytes datumRecord falseDatum 0 0 0 [])) .session .accepted ≡ 11
 
 pub instances : Instances
-unfolding Notation.if_then_else_ Notation.if_equals_then_else_ Notation.if_below_then_else_ Notation.unless_then_else_ Notation.with Operators.rowOf Operators.givesTruthOf Records.recordAt Rules.upTo Rules.every Rules.badRuleSize Rules.usesOf Rules.fieldOf Rules.shapedOf Rules.partsOf Rules.insideOf Rules.timesIn Rules.timesBelow Rules.onceOf Rules.linkedOf Rules.placesOf Rules.toldOf Rules.bindingsBelow Rules.scopedOf Rules.testsOf Rules.ruleRefusalOf Terms.termAt Terms.bytesOf Terms.termsIn Terms.put Terms.imageOf Terms.at Terms.sameOf Terms.findOf Terms.sortOf Terms.knownOf Terms.namesTruth Terms.namesBinding Terms.namesValue Terms.operandsLaidOut Terms.laidOut Terms.wellFormed Steps._>>=_ Steps.give Steps.refuse Steps._▹_ Steps.each Steps.reads Steps.up Steps.makeOf Factory.notOf Factory.andOf Factory.orOf Factory.impliesOf Factory.choiceOf Factory.truthOf Opening.badTableSize Opening.inputTaken Opening.inputTerm Opening.inputsOf Opening.chainOf Opening.openingOf Opening.opening Opening.openOf States.mergeAssumedOf States.mergeAssertedOf States.assumeOf States.assertOf States.haltsOf Walk.leafOf Walk.sideOf Walk.leftSideOf Walk.rightSideOf Walk.sidesOf Walk.nodeOf Walk.walkOf Walk.orTargetOf Walk.aimOf Merge.mergeStatesOf Merge.valueStepOf Merge.mergeValuesOf Merge.finishOf Merge.mergeOf Evaluation.placeOf Evaluation.datumOf Evaluation.procedureOf Evaluation.abortOf Evaluation.errorOf Evaluation.underOf Evaluation.letOf Evaluation.forkOf Evaluation.branchesOf Evaluation.bothOf Evaluation.ifOf Evaluation.applyOf Evaluation.targetOf Evaluation.targetsOf Evaluation.callOf Evaluation.expressionOf Evaluation.liveOf Evaluation.evalOf Fits.sameTerms Fits.noFree Fits.isZero Fits.fitsOf Evaluate.refusedBy Evaluate.haltedAgain Evaluate.evaluated Evaluate.badDepth Evaluate.evaluateOf Reading.isTrue Reading.isTruth Reading.operatorReading Reading.termReading Reading.nth Reading.readings Reading.valueOutcome Reading.resultOutcome Reading.numbersTaken Reading.resultTaken Reading.readIn Reading.readOutcome Reading.readOf Run.after Run.placed Run.isFalse Run.datumValue Run.callRun Run.expressionRun Run.runOf Run.inputValue Run.inputsBound PlainRun.valueGiven PlainRun.endedOutcome History.called History.calledAll History.ranOn History.ranAll History.runOfRules desk oneTrue sides valueTerm PlainRun.onward PlainRun.taking PlainRun.callStored PlainRun.expressionStored PlainRun.storedOf PlainRun.startedOf PlainRun.storedOutcome PlainRun.runOutcome PlainRun.runPlainlyOf ranPlainly
+unfolding computing desk oneTrue sides valueTerm ranPlainly
 instances =
     record {
       printed-case = refl;

@@ -1,3 +1,4 @@
 pub mod Every
+pub mod Computing
 pub mod Instances
 pub mod Lasting
