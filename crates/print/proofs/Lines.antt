@@ -15,7 +15,7 @@ use Rattle.semantics.specs.declared.Evaluated.{Evaluated}
 use Rattle.semantics.specs.Evaluate.{evaluateOf}
 use Rattle.semantics.specs.Numbers.{termLimit}
 use Rattle.semantics.specs.Terms.{termAt}
-use Rattle.semantics.specs.Print.{Line, out, halt, refusal, termLine, termLines, answerLines, printAllowance, evaluationLines}
+use Rattle.semantics.specs.Print.{Line, refusal, termLine, termLines, answerLines, printAllowance, evaluationLines}
 use Rattle.print.specs.Text.{ascii, joined, numbersText, lineText, linesText}
 use Rattle.print.specs.Appends.{lineBytes, Appends, Writes, Told}
 use Rattle.print.proofs.Adding.{both-added}

@@ -1,7 +1,8 @@
 // The printing program (document 01, "The printed case"): reads sixteen inputs and a rule, evaluates the rule, and
-// writes how that ended and the new terms. `printed` does the work, between a slice and an array, and promises every
-// byte. What no contract can say is what the operating system hands over and takes: `main` reads until its buffer is
-// full, the input ends or a read fails, and writes until all is written or a write fails.
+// writes how that ended and the new terms. `printed` does the work, between a slice and an array, and `printed_from`
+// promises every byte for the whole input, of which a buffer holds the beginning. What no contract can say is what the
+// operating system hands over and takes: `main` reads until its buffer is full, the input ends or a read fails, and
+// writes until all is written or a write fails.
 mod inputs;
 mod text;
 
@@ -12,16 +13,20 @@ use semantics::Session;
 use semantics::Term;
 use semantics::numbers;
 ghost use mathlib.Core.Path.{_≡_};
-ghost use Prim.Native.Nat.{_+_, _*_, _-_, _≤_};
-ghost use lib.ListN.{length};
+ghost use mathlib.Core.List.{List};
+ghost use Prim.Native.Nat.{ℕ, _+_, _*_, _-_, _≤_};
+ghost use lib.ListN.{length, take};
 ghost use Rattle.semantics.specs.Numbers.{inputCount};
 ghost use Rattle.semantics.specs.Print.{refusal, termLine, termLines, answerLines, evaluationLines};
+ghost use Rattle.io.specs.Counts.{Counts};
 ghost use Rattle.print.specs.Text.{lineText, linesText, writtenOf};
 ghost use Rattle.print.specs.Appends.{lineBytes, Appends, Writes, Told};
+ghost use Rattle.print.specs.Read.{Read};
 
 const ALLOWANCE: u16 = 100;
 
-// One byte more than the inputs and the longest rule take: the rest of a longer input makes no difference.
+// One byte more than the inputs and the longest rule take, so that a longer rule is seen to be too long; what stands
+// after that byte makes no difference.
 const INPUT: usize = forms::INPUTS + numbers::RULE_BYTES + 1;
 
 // The longest line: six numbers of five digits, each with a byte after it.
@@ -106,10 +111,23 @@ pub fn printed(input: &[u8], out: &mut [u8; OUTPUT]) -> usize
     put_evaluation(out, session, &mut table, &input[forms::INPUTS..])
 }
 
+// What is to be written for a whole input, of which the first n bytes of the buffer are as much as the buffer holds. An
+// n past the buffer's end stands for all of the buffer.
+pub fn printed_from(buffer: &[u8; INPUT], n: usize, out: &mut [u8; OUTPUT]) -> usize
+    ensures { λ r. ⌜ Counts r (now (out .exit)) ⌝ }
+    ensures { λ r. ⌜ ((input : List ℕ) → Read (now (buffer .entry)) n input → take r (now (out .exit)) ≡ writtenOf input) ⌝ }
+{
+    let bytes: &[u8] = buffer;
+    if n < INPUT {
+        return printed(&bytes[..n], out);
+    }
+    printed(bytes, out)
+}
+
 fn main() {
-    let mut input = [0u8; INPUT];
-    let n = io::read_full(STDIN_FILENO, &mut input);
+    let mut buffer = [0u8; INPUT];
+    let n = io::read_full(STDIN_FILENO, &mut buffer);
     let mut out = [0u8; OUTPUT];
-    let k = printed(&input[..n], &mut out);
+    let k = printed_from(&buffer, n, &mut out);
     io::write_all(STDOUT_FILENO, &out[..k]);
 }

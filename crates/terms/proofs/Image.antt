@@ -1,15 +1,14 @@
 -- A table of bytes that is zero past its n terms is the image of those terms. Assumes nothing.
 use mathlib.Core.Path.{_≡_, refl, sym, ap, _∙_}
 use mathlib.Core.Bool.{Bool, true, false}
-use mathlib.Core.List.{List, [], _∷_, _++_}
-use Prim.Native.Nat.{ℕ, zero, suc, _+_, _-_, _*_, _/_, _%_, _<_, _≤_}
+use mathlib.Core.List.{List, _++_}
+use Prim.Native.Nat.{ℕ, zero, suc, _+_, _-_, _*_, _<_, _≤_}
 use native.Mathlib.Omega.{arith}
-use lib.ListN.{length, getD, drop, replicate, length-replicate, getD-replicate}
+use lib.ListN.{length, getD, drop, length-replicate, getD-replicate}
 use lib.Seq.{ext-getD}
 use lib.Dec.{ltb}
 use borrow.Author.Tests.{ltb-true, ltb-false}
 use Rattle.notation.specs.Notation.{with}
-use Rattle.semantics.specs.declared.Term.{Term}
 use Rattle.semantics.specs.Records.{recordAt}
 use Rattle.semantics.specs.Terms.{termAt, bytesOf, termsIn, put, imageOf}
 use Rattle.terms.proofs.Laws.{terms-length}

@@ -1,9 +1,9 @@
 -- Assumes nothing. What a table reads after a term is put at its count: the termsIn below as before, the term itself there, and what stands past it as before.
 use mathlib.Core.Path.{_≡_, refl, sym, ap, _∙_}
-use mathlib.Core.List.{List, [], _∷_, _++_}
-use Prim.Native.Nat.{ℕ, zero, suc, _+_, _-_, _*_, _/_, _%_, _<_, _≤_}
+use mathlib.Core.List.{List, _++_}
+use Prim.Native.Nat.{ℕ, _+_, _-_, _*_, _/_, _%_, _<_, _≤_}
 use native.Mathlib.Omega.{arith}
-use lib.ListN.{length, getD, take, drop, length-take, length-drop, length-append, List·getD-append}
+use lib.ListN.{length, getD, take, drop, length-drop, length-append, List·getD-append}
 use lib.Seq.{getD-take, getD-drop, getD-append-add, length-take-le}
 use Rattle.notation.specs.Notation.{with}
 use Rattle.semantics.specs.declared.Term.{Term}

@@ -2,19 +2,18 @@
 -- follows the text of its definition, `runs` that of one whose parts use depth. Assumes nothing.
 use mathlib.Core.Path.{_≡_, refl, sym, ap, subst, _∙_}
 use mathlib.Core.Bool.{Bool, true, false}
-use mathlib.Core.List.{List, [], _∷_, _++_}
-use Prim.Native.Nat.{ℕ, zero, suc, _+_, _-_, _*_, _/_, _<_, _≤_, max}
+use mathlib.Core.List.{List, _∷_, _++_}
+use Prim.Native.Nat.{ℕ, zero, suc, _+_, _-_, _*_, _<_, _≤_, max}
 use native.Mathlib.Numerals.{add-one}
 use native.Mathlib.Omega.{arith}
 use lib.ListN.{length, getD, take, drop}
-use lib.Dec.{eqb, ltb, leb}
-use borrow.Author.Tests.{eq-eqb, ne-eqb, lt-ltb, le-ltb, le-leb, lt-leb, leb-true, leb-false}
-use Rattle.notation.specs.Notation.{pick, with, if_then_else_, if_equals_then_else_, if_below_then_else_, unless_then_else_}
+use lib.Dec.{eqb}
+use borrow.Author.Tests.{eq-eqb, ne-eqb, lt-ltb, le-ltb}
+use Rattle.notation.specs.Notation.{pick, with, if_then_else_, if_equals_then_else_, if_below_then_else_}
 use Rattle.semantics.specs.declared.Term.{Term}
 use Rattle.semantics.specs.declared.Found.{Found}
-use Rattle.semantics.specs.Numbers.{tableFull, termLimit}
 use Rattle.semantics.specs.Terms.{bytesOf, put, imageOf, termsIn}
-use Rattle.semantics.specs.Steps.{Setting, Got, gave, refused, Make, deeper, next, _>>=_, give, refuse, makeOf, each, up, upOf, reads, _▹_, roomOf}
+use Rattle.semantics.specs.Steps.{Got, gave, refused, Make, deeper, next, _>>=_, give, refuse, makeOf, each, up, upOf, reads, _▹_, roomOf}
 use Rattle.terms.specs.Search.{findAbove, codeSetting}
 use Rattle.terms.specs.Gives.{shown, Kept, Gives, Leads, from}
 use Rattle.terms.proofs.Laws.{terms-length, terms-same, tail-lent, tail-back}

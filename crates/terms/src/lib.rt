@@ -7,7 +7,7 @@ use semantics::Term;
 use semantics::numbers;
 ghost use mathlib.Core.Path.{_≡_};
 ghost use mathlib.Core.List.{_++_};
-ghost use Prim.Native.Nat.{_*_, _≤_, max};
+ghost use Prim.Native.Nat.{_/_, _≤_, max, min};
 ghost use lib.ListN.{length, drop};
 ghost use Rattle.semantics.specs.Terms.{termsIn, at as «term-number», bytesOf, sameOf, sortOf, knownOf};
 ghost use Rattle.semantics.specs.Steps.{makeOf};
@@ -132,7 +132,7 @@ fn floor(t: Term) -> usize
 
 // How many of the first `count` records lie whole in the table.
 fn whole_records(table: &[u8], count: u16) -> usize
-    ensures { λ r. ⌜ (r ≤ count) × (8 * r ≤ length (now (table .entry))) ⌝ }
+    ensures { λ r. ⌜ r ≡ min count (length (now (table .entry)) / 8) ⌝ }
 {
     let n = table.len() / 8;
     if n < wide(count) { n } else { wide(count) }

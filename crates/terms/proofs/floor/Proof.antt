@@ -1,7 +1,6 @@
 -- `terms::floor` meets its contract. Assumes nothing.
 use borrow.Author.Needs.{needs}
 use Rattle.notation.proofs.Follow.{values}
-use mathlib.Core.Path.{ap}
 use Rattle.terms.specs.Search.{floorOf}
 use Rattle.terms.proofs.floor.Statement.{statement}
 use Rattle.terms.proofs.floor.Tie as tie
