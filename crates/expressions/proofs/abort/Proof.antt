@@ -5,15 +5,9 @@ use Rattle.semantics.specs.Evaluation.{abortOf}
 use Rattle.expressions.proofs.abort.Statement.{statement}
 use Rattle.expressions.proofs.abort.Tie as tie
 
-assume-requires : tie.Need-assume-requires
-assume-requires c κs = search needs
-
-same-length : tie.Need-same-length
-same-length c = search needs
-
 returns : tie.Need-returns
 unfolding abortOf
 returns c = record { gives = search steps depth 12; low = search needs }
 
 pub abort-spec : {M : Type 1} → statement M
-abort-spec = tie.close (tie.spec assume-requires same-length returns)
+abort-spec = tie.close (tie.spec (λ c κs. search needs) (λ c. search needs) returns)

@@ -5,12 +5,6 @@ use Rattle.semantics.specs.Evaluation.{datumOf}
 use Rattle.expressions.proofs.datum.Statement.{statement}
 use Rattle.expressions.proofs.datum.Tie as tie
 
-make-requires : tie.Need-make-requires
-make-requires c κs = search needs
-
-same-length : tie.Need-same-length
-same-length c = search needs
-
 returns : tie.Need-returns
 unfolding datumOf
 returns c = record { gives = search steps depth 12; low = search needs }
@@ -20,4 +14,4 @@ unfolding datumOf
 returns-2 c = record { gives = search steps depth 12; low = search needs }
 
 pub datum-spec : {M : Type 1} → statement M
-datum-spec = tie.close (tie.spec make-requires same-length returns returns-2)
+datum-spec = tie.close (tie.spec (λ c κs. search needs) (λ c. search needs) returns returns-2)

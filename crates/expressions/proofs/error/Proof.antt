@@ -5,15 +5,9 @@ use Rattle.semantics.specs.Evaluation.{errorOf}
 use Rattle.expressions.proofs.error.Statement.{statement}
 use Rattle.expressions.proofs.error.Tie as tie
 
-assert-requires : tie.Need-assert-requires
-assert-requires c κs = search needs
-
-same-length : tie.Need-same-length
-same-length c = search needs
-
 returns : tie.Need-returns
 unfolding errorOf
 returns c = record { gives = search steps depth 12; low = search needs }
 
 pub error-spec : {M : Type 1} → statement M
-error-spec = tie.close (tie.spec assert-requires same-length returns)
+error-spec = tie.close (tie.spec (λ c κs. search needs) (λ c. search needs) returns)

@@ -5,21 +5,9 @@ use Rattle.semantics.specs.Evaluation.{operatorOf}
 use Rattle.expressions.proofs.operator.Statement.{statement}
 use Rattle.expressions.proofs.operator.Tie as tie
 
-operation-requires : tie.Need-operation-requires
-operation-requires c κs = search needs
-
-same-length : tie.Need-same-length
-same-length c = search needs
-
 returns : tie.Need-returns
 unfolding operatorOf
 returns c = record { gives = search steps depth 12; low = search needs }
-
-test-requires : tie.Need-test-requires
-test-requires c κs = search needs
-
-same-length-2 : tie.Need-same-length-2
-same-length-2 c = search needs
 
 returns-2 : tie.Need-returns-2
 unfolding operatorOf
@@ -27,4 +15,4 @@ returns-2 c = record { gives = search steps depth 12; low = search needs }
 
 pub operator-spec : {M : Type 1} → statement M
 operator-spec =
-    tie.close (tie.spec operation-requires same-length returns test-requires same-length-2 returns-2)
+    tie.close (tie.spec (λ c κs. search needs) (λ c. search needs) returns (λ c κs. search needs) (λ c. search needs) returns-2)

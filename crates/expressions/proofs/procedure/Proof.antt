@@ -5,15 +5,9 @@ use Rattle.semantics.specs.Evaluation.{procedureOf}
 use Rattle.expressions.proofs.procedure.Statement.{statement}
 use Rattle.expressions.proofs.procedure.Tie as tie
 
-make-requires : tie.Need-make-requires
-make-requires c κs = search needs
-
-same-length : tie.Need-same-length
-same-length c = search needs
-
 returns : tie.Need-returns
 unfolding procedureOf
 returns c = record { gives = search steps depth 12; low = search needs }
 
 pub procedure-spec : {M : Type 1} → statement M
-procedure-spec = tie.close (tie.spec make-requires same-length returns)
+procedure-spec = tie.close (tie.spec (λ c κs. search needs) (λ c. search needs) returns)

@@ -5,19 +5,6 @@ use Rattle.semantics.specs.Evaluation.{secondOf}
 use Rattle.expressions.proofs.second.Statement.{statement}
 use Rattle.expressions.proofs.second.Tie as tie
 
-operands-requires : tie.Need-operands-requires
-operands-requires c κs = search needs
-
-returns : tie.Need-returns
-unfolding secondOf
-returns c = search values
-
-place-requires : tie.Need-place-requires
-place-requires c κs = search needs
-
-returns-2 : tie.Need-returns-2
-unfolding secondOf
-returns-2 c = search values
-
 pub second-spec : {M : Type 1} → statement M
-second-spec = tie.close (tie.spec operands-requires returns place-requires returns-2)
+unfolding secondOf
+second-spec = tie.close (tie.spec (λ c κs. search needs) (λ c. search values) (λ c κs. search needs) (λ c. search values))

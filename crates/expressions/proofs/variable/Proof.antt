@@ -4,11 +4,8 @@ use Rattle.terms.proofs.Steps.{steps}
 use Rattle.expressions.proofs.variable.Statement.{statement}
 use Rattle.expressions.proofs.variable.Tie as tie
 
-place-requires : tie.Need-place-requires
-place-requires c κs = search needs
-
 returns : tie.Need-returns
 returns c = record { gives = search steps depth 12; low = search needs }
 
 pub variable-spec : {M : Type 1} → statement M
-variable-spec = tie.close (tie.spec place-requires returns)
+variable-spec = tie.close (tie.spec (λ c κs. search needs) returns)

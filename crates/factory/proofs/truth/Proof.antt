@@ -5,42 +5,9 @@ use Rattle.terms.proofs.Steps.{steps}
 use Rattle.factory.proofs.truth.Statement.{statement}
 use Rattle.factory.proofs.truth.Tie as tie
 
-sort-at-requires : tie.Need-sort-at-requires
-sort-at-requires c κs = search needs
-
-make-requires : tie.Need-make-requires
-make-requires c κs = search needs
-
-same-length : tie.Need-same-length
-same-length c = search needs
-
-returns : tie.Need-returns
-unfolding truthOf
-returns c = search steps depth 12
-
-same-length-2 : tie.Need-same-length-2
-same-length-2 c = search needs
-
-returns-2 : tie.Need-returns-2
-unfolding truthOf
-returns-2 c = search steps depth 12
-
-same-length-3 : tie.Need-same-length-3
-same-length-3 c = search needs
-
-returns-3 : tie.Need-returns-3
-unfolding truthOf
-returns-3 c = search steps depth 12
-
 pub truth-spec : {M : Type 1} → statement M
+unfolding truthOf
 truth-spec =
     tie.close
-    (tie.spec
-    sort-at-requires
-    make-requires
-    same-length
-    returns
-    same-length-2
-    returns-2
-    same-length-3
-    returns-3)
+    (tie.spec (λ c κs. search needs) (λ c κs. search needs) (λ c. search needs) (λ c. search steps depth 12) (λ c. search needs) (λ c. search steps depth 12)
+    (λ c. search needs) (λ c. search steps depth 12))

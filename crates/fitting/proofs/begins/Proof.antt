@@ -13,45 +13,8 @@ Inv-loop table fresh n i₀ i = sameTerms (termsIn table i) (termsIn fresh i) �
 abbrev μ-loop : tie.MeasureT-loop
 μ-loop table fresh n i₀ i = i
 
-loop-holds : tie.Need-loop-holds Inv-loop μ-loop
-loop-holds c = search needs
-
-sub-i : tie.Need-sub-i Inv-loop μ-loop
-sub-i c = search needs
-
-term-at-requires : tie.Need-term-at-requires Inv-loop μ-loop
-term-at-requires c κs = search needs
-
-term-at-requires-2 : tie.Need-term-at-requires-2 Inv-loop μ-loop
-term-at-requires-2 c κs = search needs
-
-same-requires : tie.Need-same-requires Inv-loop μ-loop
-same-requires c κs = search needs
-
-loop-less : tie.Need-loop-less Inv-loop μ-loop
-loop-less c = search needs
-
-loop-again : tie.Need-loop-again Inv-loop μ-loop
-loop-again c = search same-next
-
-returns : tie.Need-returns Inv-loop μ-loop
-returns c = search same-miss
-
-returns-2 : tie.Need-returns-2 Inv-loop μ-loop
-returns-2 c = search same-end
-
 pub begins-spec : {M : Type 1} → statement M
 begins-spec =
     tie.close
-    (tie.spec
-    Inv-loop
-    μ-loop
-    loop-holds
-    sub-i
-    term-at-requires
-    term-at-requires-2
-    same-requires
-    loop-less
-    loop-again
-    returns
-    returns-2)
+    (tie.spec Inv-loop μ-loop (λ c. search needs) (λ c. search needs) (λ c κs. search needs) (λ c κs. search needs) (λ c κs. search needs) (λ c. search needs)
+    (λ c. search same-next) (λ c. search same-miss) (λ c. search same-end))

@@ -4,12 +4,9 @@ use Rattle.semantics.specs.Terms.{namesBinding}
 use Rattle.fitting.proofs.names_binding.Statement.{statement}
 use Rattle.fitting.proofs.names_binding.Tie as tie
 
-sort-at-requires : tie.Need-sort-at-requires
-sort-at-requires c κs = search needs
-
 returns : tie.Need-returns
 unfolding namesBinding
 returns c = rw (c .sort-at .ensures)
 
 pub names-binding-spec : {M : Type 1} → statement M
-names-binding-spec = tie.close (tie.spec sort-at-requires returns)
+names-binding-spec = tie.close (tie.spec (λ c κs. search needs) returns)

@@ -4,12 +4,9 @@ use Rattle.semantics.specs.Terms.{namesChoice}
 use Rattle.fitting.proofs.names_choice.Statement.{statement}
 use Rattle.fitting.proofs.names_choice.Tie as tie
 
-sort-at-requires : tie.Need-sort-at-requires
-sort-at-requires c κs = search needs
-
 returns : tie.Need-returns
 unfolding namesChoice
 returns c = rw (c .sort-at .ensures)
 
 pub names-choice-spec : {M : Type 1} → statement M
-names-choice-spec = tie.close (tie.spec sort-at-requires returns)
+names-choice-spec = tie.close (tie.spec (λ c κs. search needs) returns)

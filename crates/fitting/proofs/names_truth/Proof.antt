@@ -4,12 +4,9 @@ use Rattle.semantics.specs.Terms.{namesTruth}
 use Rattle.fitting.proofs.names_truth.Statement.{statement}
 use Rattle.fitting.proofs.names_truth.Tie as tie
 
-sort-at-requires : tie.Need-sort-at-requires
-sort-at-requires c κs = search needs
-
 returns : tie.Need-returns
 unfolding namesTruth
 returns c = rw (c .sort-at .ensures)
 
 pub names-truth-spec : {M : Type 1} → statement M
-names-truth-spec = tie.close (tie.spec sort-at-requires returns)
+names-truth-spec = tie.close (tie.spec (λ c κs. search needs) returns)

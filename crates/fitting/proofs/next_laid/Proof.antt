@@ -4,14 +4,5 @@ use Rattle.notation.proofs.Follow.{tests}
 use Rattle.fitting.proofs.next_laid.Statement.{statement}
 use Rattle.fitting.proofs.next_laid.Tie as tie
 
-names-binding-requires : tie.Need-names-binding-requires
-names-binding-requires c κs = search needs
-
-returns : tie.Need-returns
-returns c = search tests depth 12
-
-returns-2 : tie.Need-returns-2
-returns-2 c = search tests depth 12
-
 pub next-laid-spec : {M : Type 1} → statement M
-next-laid-spec = tie.close (tie.spec names-binding-requires returns returns-2)
+next-laid-spec = tie.close (tie.spec (λ c κs. search needs) (λ c. search tests depth 12) (λ c. search tests depth 12))

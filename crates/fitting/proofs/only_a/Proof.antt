@@ -3,11 +3,5 @@ use Rattle.notation.proofs.Follow.{tests}
 use Rattle.fitting.proofs.only_a.Statement.{statement}
 use Rattle.fitting.proofs.only_a.Tie as tie
 
-returns : tie.Need-returns
-returns c = search tests depth 12
-
-returns-2 : tie.Need-returns-2
-returns-2 c = search tests depth 12
-
 pub only-a-spec : {M : Type 1} → statement M
-only-a-spec = tie.close (tie.spec returns returns-2)
+only-a-spec = tie.close (tie.spec (λ c. search tests depth 12) (λ c. search tests depth 12))

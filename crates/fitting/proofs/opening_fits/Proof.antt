@@ -8,23 +8,11 @@ use Rattle.fitting.proofs.opening_fits.Tie as tie
 returns : tie.Need-returns
 returns c = simp terms-length (search tests depth 12)
 
-cast-if2 : tie.Need-cast-if2
-cast-if2 c = search needs
-
 returns-2 : tie.Need-returns-2
 returns-2 c = simp terms-length (search tests depth 12)
 
-begins-requires : tie.Need-begins-requires
-begins-requires c κs = search needs
-
 returns-3 : tie.Need-returns-3
 returns-3 c = simp terms-length (search tests depth 12)
-
-none-free-requires : tie.Need-none-free-requires
-none-free-requires c κs = search needs
-
-records-fit-requires : tie.Need-records-fit-requires
-records-fit-requires c κs = search needs
 
 returns-4 : tie.Need-returns-4
 returns-4 c = simp terms-length (search tests depth 12)
@@ -35,13 +23,4 @@ returns-5 c = simp terms-length (search tests depth 12)
 pub opening-fits-spec : {M : Type 1} → statement M
 opening-fits-spec =
     tie.close
-    (tie.spec
-    returns
-    cast-if2
-    returns-2
-    begins-requires
-    returns-3
-    none-free-requires
-    records-fit-requires
-    returns-4
-    returns-5)
+    (tie.spec returns (λ c. search needs) returns-2 (λ c κs. search needs) returns-3 (λ c κs. search needs) (λ c κs. search needs) returns-4 returns-5)

@@ -4,18 +4,6 @@ use Rattle.notation.proofs.Follow.{tests}
 use Rattle.fitting.proofs.two_truths.Statement.{statement}
 use Rattle.fitting.proofs.two_truths.Tie as tie
 
-names-truth-requires : tie.Need-names-truth-requires
-names-truth-requires c κs = search needs
-
-names-truth-requires-2 : tie.Need-names-truth-requires-2
-names-truth-requires-2 c κs = search needs
-
-returns : tie.Need-returns
-returns c = search tests depth 12
-
-returns-2 : tie.Need-returns-2
-returns-2 c = search tests depth 12
-
 pub two-truths-spec : {M : Type 1} → statement M
 two-truths-spec =
-    tie.close (tie.spec names-truth-requires names-truth-requires-2 returns returns-2)
+    tie.close (tie.spec (λ c κs. search needs) (λ c κs. search needs) (λ c. search tests depth 12) (λ c. search tests depth 12))

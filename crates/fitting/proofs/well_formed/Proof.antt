@@ -20,45 +20,6 @@ abbrev μ-loop : tie.MeasureT-loop
 loop-holds : tie.Need-loop-holds Inv-loop μ-loop
 loop-holds c = ((search needs, formed-start _ _), (marked-start _ _, marked-start _ _))
 
-term-at-requires : tie.Need-term-at-requires Inv-loop μ-loop
-term-at-requires c κs = search needs
-
-laid-out-requires : tie.Need-laid-out-requires Inv-loop μ-loop
-laid-out-requires c κs = search needs
-
-returns : tie.Need-returns Inv-loop μ-loop
-returns c = search formed-miss
-
-mark-of-requires : tie.Need-mark-of-requires Inv-loop μ-loop
-mark-of-requires c κs = search needs
-
-mark-of-requires-2 : tie.Need-mark-of-requires-2 Inv-loop μ-loop
-mark-of-requires-2 c κs = search needs
-
-array-read-repeated : tie.Need-array-read-repeated Inv-loop μ-loop
-array-read-repeated c = search mark-inside
-
-array-read-repeated-2 : tie.Need-array-read-repeated-2 Inv-loop μ-loop
-array-read-repeated-2 c = search mark-inside
-
-repeated-requires : tie.Need-repeated-requires Inv-loop μ-loop
-repeated-requires c κs = search needs
-
-returns-2 : tie.Need-returns-2 Inv-loop μ-loop
-returns-2 c = search formed-twice
-
-array-write-first : tie.Need-array-write-first Inv-loop μ-loop
-array-write-first c = search mark-inside
-
-array-write-second : tie.Need-array-write-second Inv-loop μ-loop
-array-write-second c = search mark-inside
-
-add-i : tie.Need-add-i Inv-loop μ-loop
-add-i c = search needs
-
-loop-less : tie.Need-loop-less Inv-loop μ-loop
-loop-less c = search needs
-
 loop-again : tie.Need-loop-again Inv-loop μ-loop
 loop-again c =
     let p = c .before .before .before .before .before in
@@ -69,28 +30,9 @@ loop-again c =
     let w = formed-next _ _ _ (l .0 .1) t (p .laid-out .ensures) (c .before .before .before .before .if1 .taken) _ _ (l .1 .0) (l .1 .1) x y (c .before .repeated .ensures) (c .if2 .left) in
     ((search needs, w), (marked-next _ _ _ (l .1 .0) t x, marked-next _ _ _ (l .1 .1) t y))
 
-returns-3 : tie.Need-returns-3 Inv-loop μ-loop
-returns-3 c = search formed-end
-
 pub well-formed-spec : {M : Type 1} → statement M
 well-formed-spec =
     tie.close
-    (tie.spec
-    Inv-loop
-    μ-loop
-    loop-holds
-    term-at-requires
-    laid-out-requires
-    returns
-    mark-of-requires
-    mark-of-requires-2
-    array-read-repeated
-    array-read-repeated-2
-    repeated-requires
-    returns-2
-    array-write-first
-    array-write-second
-    add-i
-    loop-less
-    loop-again
-    returns-3)
+    (tie.spec Inv-loop μ-loop loop-holds (λ c κs. search needs) (λ c κs. search needs) (λ c. search formed-miss) (λ c κs. search needs) (λ c κs. search needs)
+    (λ c. search mark-inside) (λ c. search mark-inside) (λ c κs. search needs) (λ c. search formed-twice) (λ c. search mark-inside)
+    (λ c. search mark-inside) (λ c. search needs) (λ c. search needs) loop-again (λ c. search formed-end))

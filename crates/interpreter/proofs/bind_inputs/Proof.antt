@@ -20,44 +20,8 @@ abbrev μ-loop : tie.MeasureT-loop
 loop-holds : tie.Need-loop-holds Inv-loop μ-loop
 loop-holds c = (refl, (search needs, inputs-none (c .before .args .store .now) (c .before .args .t2) (c .before .args .t3) (c .before .good .1 .0 .1 .0 .1) (c .before .good .1 .1 .0 .1 .0 .1)))
 
-sub-i : tie.Need-sub-i Inv-loop μ-loop
-sub-i c = search needs
-
-sub-i-2 : tie.Need-sub-i-2 Inv-loop μ-loop
-sub-i-2 c = search needs
-
-cast-i : tie.Need-cast-i Inv-loop μ-loop
-cast-i c = search needs
-
-mul-input-value : tie.Need-mul-input-value Inv-loop μ-loop
-mul-input-value c = search needs
-
-array-copy-out-input-value : tie.Need-array-copy-out-input-value Inv-loop μ-loop
-array-copy-out-input-value c = search needs
-
-mul-input-value-2 : tie.Need-mul-input-value-2 Inv-loop μ-loop
-mul-input-value-2 c = search needs
-
-array-read-input-value : tie.Need-array-read-input-value Inv-loop μ-loop
-array-read-input-value c = search needs
-
-input-value-requires : tie.Need-input-value-requires Inv-loop μ-loop
-input-value-requires c κs = search needs
-
-put-binding-requires : tie.Need-put-binding-requires Inv-loop μ-loop
-put-binding-requires c κs = search needs
-
-add-k : tie.Need-add-k Inv-loop μ-loop
-add-k c = search needs
-
-loop-less : tie.Need-loop-less Inv-loop μ-loop
-loop-less c = search needs
-
 loop-again : tie.Need-loop-again Inv-loop μ-loop
 loop-again c = (search needs, (search needs, inputs-more (c .before .before .before .before .before .before .before .loop .store) (c .before .before .before .before .before .before .before .before .before .args .t2) (c .before .before .before .before .before .before .before .before .before .args .t3) (c .before .before .before .before .before .before .before .before .before .good .1 .0 .1 .0 .1) (c .before .before .before .before .before .before .before .before .before .good .1 .1 .0 .1 .0 .1) (c .before .before .before .before .before .before .before .loop .k) (search needs) (search needs) (c .before .before .before .before .before .before .before .loop .inv .1 .1) _ _ (c .before .before .before .before .input-value .ensures .0) (c .before .before .before .before .input-value .ensures .1) (c .before .before .put-binding .ensures)))
-
-same-length : tie.Need-same-length Inv-loop μ-loop
-same-length c = search needs
 
 returns : tie.Need-returns Inv-loop μ-loop
 returns c = (inputs-all _ _ _ _ (omega arith) (c .before .loop .inv .1 .1), c .before .loop .inv .0)
@@ -65,21 +29,5 @@ returns c = (inputs-all _ _ _ _ (omega arith) (c .before .loop .inv .1 .1), c .b
 pub bind-inputs-spec : {M : Type 1} → statement M
 bind-inputs-spec =
     tie.close
-    (tie.spec
-    Inv-loop
-    μ-loop
-    loop-holds
-    sub-i
-    sub-i-2
-    cast-i
-    mul-input-value
-    array-copy-out-input-value
-    mul-input-value-2
-    array-read-input-value
-    input-value-requires
-    put-binding-requires
-    add-k
-    loop-less
-    loop-again
-    same-length
-    returns)
+    (tie.spec Inv-loop μ-loop loop-holds (λ c. search needs) (λ c. search needs) (λ c. search needs) (λ c. search needs) (λ c. search needs) (λ c. search needs)
+    (λ c. search needs) (λ c κs. search needs) (λ c κs. search needs) (λ c. search needs) (λ c. search needs) loop-again (λ c. search needs) returns)

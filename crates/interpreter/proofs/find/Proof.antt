@@ -18,50 +18,11 @@ abbrev μ-loop : tie.MeasureT-loop
 loop-holds : tie.Need-loop-holds Inv-loop μ-loop
 loop-holds c = (refl, search needs)
 
-sub-held-at : tie.Need-sub-held-at Inv-loop μ-loop
-sub-held-at c = search needs
-
-held-at-requires : tie.Need-held-at-requires Inv-loop μ-loop
-held-at-requires c κs = search needs
-
-returns : tie.Need-returns Inv-loop μ-loop
-returns c = search find-here
-
-sub-next-at : tie.Need-sub-next-at Inv-loop μ-loop
-sub-next-at c = search needs
-
-next-at-requires : tie.Need-next-at-requires Inv-loop μ-loop
-next-at-requires c κs = search needs
-
-sub-left : tie.Need-sub-left Inv-loop μ-loop
-sub-left c = search needs
-
-loop-less : tie.Need-loop-less Inv-loop μ-loop
-loop-less c = search next-less
-
 loop-again : tie.Need-loop-again Inv-loop μ-loop
 loop-again c = (search find-next, search find-lower)
-
-plain-requires : tie.Need-plain-requires Inv-loop μ-loop
-plain-requires c κs = search needs
-
-returns-2 : tie.Need-returns-2 Inv-loop μ-loop
-returns-2 c = search find-end
 
 pub find-spec : {M : Type 1} → statement M
 find-spec =
     tie.close
-    (tie.spec
-    Inv-loop
-    μ-loop
-    loop-holds
-    sub-held-at
-    held-at-requires
-    returns
-    sub-next-at
-    next-at-requires
-    sub-left
-    loop-less
-    loop-again
-    plain-requires
-    returns-2)
+    (tie.spec Inv-loop μ-loop loop-holds (λ c. search needs) (λ c κs. search needs) (λ c. search find-here) (λ c. search needs) (λ c κs. search needs)
+    (λ c. search needs) (λ c. search next-less) loop-again (λ c κs. search needs) (λ c. search find-end))

@@ -4,9 +4,6 @@ use Rattle.interpreter.proofs.Sorts.{procedure-test}
 use Rattle.interpreter.proofs.is_procedure.Statement.{statement}
 use Rattle.interpreter.proofs.is_procedure.Tie as tie
 
-returns : tie.Need-returns
-unfolding shown
-returns c = search procedure-test
-
 pub is-procedure-spec : {M : Type 1} → statement M
-is-procedure-spec = tie.close (tie.spec returns)
+unfolding shown
+is-procedure-spec = tie.close (tie.spec (λ c. search procedure-test))

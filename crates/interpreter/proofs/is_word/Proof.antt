@@ -4,9 +4,6 @@ use Rattle.interpreter.proofs.Sorts.{word-test}
 use Rattle.interpreter.proofs.is_word.Statement.{statement}
 use Rattle.interpreter.proofs.is_word.Tie as tie
 
-returns : tie.Need-returns
-unfolding shown
-returns c = search word-test
-
 pub is-word-spec : {M : Type 1} → statement M
-is-word-spec = tie.close (tie.spec returns)
+unfolding shown
+is-word-spec = tie.close (tie.spec (λ c. search word-test))

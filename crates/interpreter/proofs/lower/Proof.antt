@@ -4,13 +4,6 @@ use Rattle.interpreter.specs.Store.{lowerOf}
 use Rattle.interpreter.proofs.lower.Statement.{statement}
 use Rattle.interpreter.proofs.lower.Tie as tie
 
-returns : tie.Need-returns
-unfolding lowerOf
-returns c = search values
-
-returns-2 : tie.Need-returns-2
-unfolding lowerOf
-returns-2 c = search values
-
 pub lower-spec : {M : Type 1} → statement M
-lower-spec = tie.close (tie.spec returns returns-2)
+unfolding lowerOf
+lower-spec = tie.close (tie.spec (λ c. search values) (λ c. search values))

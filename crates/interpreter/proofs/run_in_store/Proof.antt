@@ -4,21 +4,9 @@ use Rattle.interpreter.proofs.Steps.{answer, wiped}
 use Rattle.interpreter.proofs.run_in_store.Statement.{statement}
 use Rattle.interpreter.proofs.run_in_store.Tie as tie
 
-start-requires : tie.Need-start-requires
-start-requires c κs = search needs
-
-outcome-requires : tie.Need-outcome-requires
-outcome-requires c κs = search needs
-
-wipe-requires : tie.Need-wipe-requires
-wipe-requires c κs = search needs
-
-same-length : tie.Need-same-length
-same-length c = search needs
-
 returns : tie.Need-returns
 returns c = (search answer, search wiped)
 
 pub run-in-store-spec : {M : Type 1} → statement M
 run-in-store-spec =
-    tie.close (tie.spec start-requires outcome-requires wipe-requires same-length returns)
+    tie.close (tie.spec (λ c κs. search needs) (λ c κs. search needs) (λ c κs. search needs) (λ c. search needs) returns)

@@ -3,11 +3,8 @@ use borrow.Author.Needs.{needs}
 use Rattle.interpreter.proofs.stopped.Statement.{statement}
 use Rattle.interpreter.proofs.stopped.Tie as tie
 
-plain-requires : tie.Need-plain-requires
-plain-requires c κs = search needs
-
 returns : tie.Need-returns
 returns c = cc
 
 pub stopped-spec : {M : Type 1} → statement M
-stopped-spec = tie.close (tie.spec plain-requires returns)
+stopped-spec = tie.close (tie.spec (λ c κs. search needs) returns)

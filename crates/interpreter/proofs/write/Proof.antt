@@ -8,50 +8,26 @@ use Rattle.interpreter.specs.Promise.{bytesOf}
 use Rattle.interpreter.proofs.write.Statement.{statement}
 use Rattle.interpreter.proofs.write.Tie as tie
 
-slice-write-tail : tie.Need-slice-write-tail
-slice-write-tail c = search needs
-
 slice-write-tail-2 : tie.Need-slice-write-tail-2
 slice-write-tail-2 c = simp length-set (omega arith)
-
-cast-tail : tie.Need-cast-tail
-cast-tail c = search needs
 
 slice-write-tail-3 : tie.Need-slice-write-tail-3
 slice-write-tail-3 c = simp length-set (omega arith)
 
-cast-tail-2 : tie.Need-cast-tail-2
-cast-tail-2 c = search needs
-
 slice-write-tail-4 : tie.Need-slice-write-tail-4
 slice-write-tail-4 c = simp length-set (omega arith)
-
-cast-tail-3 : tie.Need-cast-tail-3
-cast-tail-3 c = search needs
 
 slice-write-tail-5 : tie.Need-slice-write-tail-5
 slice-write-tail-5 c = simp length-set (omega arith)
 
-cast-tail-4 : tie.Need-cast-tail-4
-cast-tail-4 c = search needs
-
 slice-write-tail-6 : tie.Need-slice-write-tail-6
 slice-write-tail-6 c = simp length-set (omega arith)
-
-cast-tail-5 : tie.Need-cast-tail-5
-cast-tail-5 c = search needs
 
 slice-write-tail-7 : tie.Need-slice-write-tail-7
 slice-write-tail-7 c = simp length-set (omega arith)
 
-cast-tail-6 : tie.Need-cast-tail-6
-cast-tail-6 c = search needs
-
 slice-write-tail-8 : tie.Need-slice-write-tail-8
 slice-write-tail-8 c = simp length-set (omega arith)
-
-same-length : tie.Need-same-length
-same-length c = search needs
 
 returns : tie.Need-returns
 unfolding bytesOf
@@ -60,20 +36,6 @@ returns c = sets-eq (bytesOf (c .before .before .before .before .before .before 
 pub write-spec : {M : Type 1} → statement M
 write-spec =
     tie.close
-    (tie.spec
-    slice-write-tail
-    slice-write-tail-2
-    cast-tail
-    slice-write-tail-3
-    cast-tail-2
-    slice-write-tail-4
-    cast-tail-3
-    slice-write-tail-5
-    cast-tail-4
-    slice-write-tail-6
-    cast-tail-5
-    slice-write-tail-7
-    cast-tail-6
-    slice-write-tail-8
-    same-length
-    returns)
+    (tie.spec (λ c. search needs) slice-write-tail-2 (λ c. search needs) slice-write-tail-3 (λ c. search needs) slice-write-tail-4 (λ c. search needs)
+    slice-write-tail-5 (λ c. search needs) slice-write-tail-6 (λ c. search needs) slice-write-tail-7 (λ c. search needs) slice-write-tail-8
+    (λ c. search needs) returns)

@@ -8,14 +8,8 @@ use Rattle.merge.proofs.place.Tie as tie
 returns : tie.Need-returns
 returns c = (search place-up, omega arith)
 
-sub-result : tie.Need-sub-result
-sub-result c = search needs
-
-sub-result-2 : tie.Need-sub-result-2
-sub-result-2 c = search needs
-
 returns-2 : tie.Need-returns-2
 returns-2 c = (search place-down, omega arith)
 
 pub place-spec : {M : Type 1} → statement M
-place-spec = tie.close (tie.spec returns sub-result sub-result-2 returns-2)
+place-spec = tie.close (tie.spec returns (λ c. search needs) (λ c. search needs) returns-2)

@@ -15,38 +15,11 @@ abbrev μ-loop : tie.MeasureT-loop
 loop-holds : tie.Need-loop-holds Inv-loop μ-loop
 loop-holds c = (search needs, λ k l m. absurd (omega arith))
 
-sub-i : tie.Need-sub-i Inv-loop μ-loop
-sub-i c = search needs
-
-input-requires : tie.Need-input-requires Inv-loop μ-loop
-input-requires c κs = search needs
-
-input-taken-requires : tie.Need-input-taken-requires Inv-loop μ-loop
-input-taken-requires c κs = search needs
-
-loop-less : tie.Need-loop-less Inv-loop μ-loop
-loop-less c = search needs
-
 loop-again : tie.Need-loop-again Inv-loop μ-loop
 loop-again c = (search needs, search taken-more)
-
-returns : tie.Need-returns Inv-loop μ-loop
-returns c = search (needs, taken-miss)
-
-returns-2 : tie.Need-returns-2 Inv-loop μ-loop
-returns-2 c = search (needs, taken-all)
 
 pub inputs-taken-spec : {M : Type 1} → statement M
 inputs-taken-spec =
     tie.close
-    (tie.spec
-    Inv-loop
-    μ-loop
-    loop-holds
-    sub-i
-    input-requires
-    input-taken-requires
-    loop-less
-    loop-again
-    returns
-    returns-2)
+    (tie.spec Inv-loop μ-loop loop-holds (λ c. search needs) (λ c κs. search needs) (λ c κs. search needs) (λ c. search needs) loop-again
+    (λ c. search (needs, taken-miss)) (λ c. search (needs, taken-all)))

@@ -4,12 +4,9 @@ use Rattle.operators.specs.Operators.{givesTruthOf}
 use Rattle.operators.proofs.gives_truth.Statement.{statement}
 use Rattle.operators.proofs.gives_truth.Tie as tie
 
-row-requires : tie.Need-row-requires
-row-requires c κs = search needs
-
 returns : tie.Need-returns
 unfolding givesTruthOf
 returns c = rw (c .row .ensures)
 
 pub gives-truth-spec : {M : Type 1} → statement M
-gives-truth-spec = tie.close (tie.spec row-requires returns)
+gives-truth-spec = tie.close (tie.spec (λ c κs. search needs) returns)

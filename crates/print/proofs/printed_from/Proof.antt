@@ -10,14 +10,8 @@ use Rattle.print.proofs.printed_from.Tie as tie
 slice-aggregate-printed : tie.Need-slice-aggregate-printed
 slice-aggregate-printed c = sym (length-take-le _ _ (omega arith))
 
-printed-requires : tie.Need-printed-requires
-printed-requires c κs = search needs
-
 returns : tie.Need-returns
 returns c = (c .printed .ensures .counts, λ input read. whole-written read (omega arith) (c .printed .ensures .is))
-
-printed-requires-2 : tie.Need-printed-requires-2
-printed-requires-2 c κs = search needs
 
 returns-2 : tie.Need-returns-2
 returns-2 c = (c .printed2 .ensures .counts, λ input read. full-written read (omega arith) (omega arith) (c .printed2 .ensures .is))
@@ -25,4 +19,4 @@ returns-2 c = (c .printed2 .ensures .counts, λ input read. full-written read (o
 pub printed-from-spec : {M : Type 1} → statement M
 printed-from-spec =
     tie.close
-    (tie.spec slice-aggregate-printed printed-requires returns printed-requires-2 returns-2)
+    (tie.spec slice-aggregate-printed (λ c κs. search needs) returns (λ c κs. search needs) returns-2)

@@ -5,41 +5,11 @@ use borrow.Author.Needs.{needs}
 use Rattle.print.proofs.put_answer.Statement.{statement}
 use Rattle.print.proofs.put_answer.Tie as tie
 
-enum-known-answer : tie.Need-enum-known-answer
-enum-known-answer c = search needs
-
-slice-aggregate-put-line : tie.Need-slice-aggregate-put-line
-slice-aggregate-put-line c = search needs
-
-slice-aggregate-put-line-2 : tie.Need-slice-aggregate-put-line-2
-slice-aggregate-put-line-2 c = search needs
-
-put-line-requires : tie.Need-put-line-requires
-put-line-requires c κs = search needs
-
 put-terms-requires : tie.Need-put-terms-requires
 put-terms-requires c κs = omega (arith, told-out _ _ (c .before .before .before .before .before .before .before .before .before .pre) (c .before .before .before .before .before .before .answer .given .1))
 
-enum-known-answer-2 : tie.Need-enum-known-answer-2
-enum-known-answer-2 c = search needs
-
-slice-aggregate-put-line-3 : tie.Need-slice-aggregate-put-line-3
-slice-aggregate-put-line-3 c = search needs
-
-slice-aggregate-put-line-4 : tie.Need-slice-aggregate-put-line-4
-slice-aggregate-put-line-4 c = search needs
-
-put-line-requires-2 : tie.Need-put-line-requires-2
-put-line-requires-2 c κs = search needs
-
 put-terms-requires-2 : tie.Need-put-terms-requires-2
 put-terms-requires-2 c κs = omega (arith, told-halt _ _ (c .before .before .before .before .before .before .before .before .before .pre) (c .before .before .before .before .before .before .answer2 .given .1))
-
-enum-known-answer-3 : tie.Need-enum-known-answer-3
-enum-known-answer-3 c = search needs
-
-put-refusal-requires : tie.Need-put-refusal-requires
-put-refusal-requires c κs = search needs
 
 returns : tie.Need-returns
 returns c = answered-out _ _ (c .before .before .before .before .before .before .before .before .before .before .pre) _ _ (search needs) (c .put-terms .ensures) (c .before .before .before .before .before .before .before .answer .given .1) (c .before .before .put-line .ensures)
@@ -53,19 +23,5 @@ returns-3 c = answered-refused _ _ _ (c .before .before .before .answer3 .given 
 pub put-answer-spec : {M : Type 1} → statement M
 put-answer-spec =
     tie.close
-    (tie.spec
-    enum-known-answer
-    slice-aggregate-put-line
-    slice-aggregate-put-line-2
-    put-line-requires
-    put-terms-requires
-    enum-known-answer-2
-    slice-aggregate-put-line-3
-    slice-aggregate-put-line-4
-    put-line-requires-2
-    put-terms-requires-2
-    enum-known-answer-3
-    put-refusal-requires
-    returns
-    returns-2
-    returns-3)
+    (tie.spec (λ c. search needs) (λ c. search needs) (λ c. search needs) (λ c κs. search needs) put-terms-requires (λ c. search needs) (λ c. search needs)
+    (λ c. search needs) (λ c κs. search needs) put-terms-requires-2 (λ c. search needs) (λ c κs. search needs) returns returns-2 returns-3)

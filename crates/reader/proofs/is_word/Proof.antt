@@ -4,9 +4,6 @@ use Rattle.semantics.specs.Reading.{isWord}
 use Rattle.reader.proofs.is_word.Statement.{statement}
 use Rattle.reader.proofs.is_word.Tie as tie
 
-returns : tie.Need-returns
-unfolding isWord
-returns c = search needs
-
 pub is-word-spec : {M : Type 1} → statement M
-is-word-spec = tie.close (tie.spec returns)
+unfolding isWord
+is-word-spec = tie.close (tie.spec (λ c. search needs))

@@ -19,33 +19,6 @@ abbrev μ-loop : tie.MeasureT-loop
 loop-holds : tie.Need-loop-holds Inv-loop μ-loop
 loop-holds c = (search needs, refl)
 
-cast-number-taken : tie.Need-cast-number-taken Inv-loop μ-loop
-cast-number-taken c = search needs
-
-mul-number-taken : tie.Need-mul-number-taken Inv-loop μ-loop
-mul-number-taken c = search needs
-
-array-copy-out-number-taken : tie.Need-array-copy-out-number-taken Inv-loop μ-loop
-array-copy-out-number-taken c = search needs
-
-cast-number-taken-2 : tie.Need-cast-number-taken-2 Inv-loop μ-loop
-cast-number-taken-2 c = search needs
-
-mul-number-taken-2 : tie.Need-mul-number-taken-2 Inv-loop μ-loop
-mul-number-taken-2 c = search needs
-
-array-read-number-taken : tie.Need-array-read-number-taken Inv-loop μ-loop
-array-read-number-taken c = search needs
-
-number-taken-requires : tie.Need-number-taken-requires Inv-loop μ-loop
-number-taken-requires c κs = search needs
-
-add-i : tie.Need-add-i Inv-loop μ-loop
-add-i c = search needs
-
-loop-less : tie.Need-loop-less Inv-loop μ-loop
-loop-less c = search needs
-
 loop-again : tie.Need-loop-again Inv-loop μ-loop
 loop-again c =
     let at-loop = c .before .before .before .before in
@@ -62,19 +35,5 @@ returns-2 c = taken-all (c .before .before .args .t1) (c .before .before .args .
 pub numbers-taken-spec : {M : Type 1} → statement M
 numbers-taken-spec =
     tie.close
-    (tie.spec
-    Inv-loop
-    μ-loop
-    loop-holds
-    cast-number-taken
-    mul-number-taken
-    array-copy-out-number-taken
-    cast-number-taken-2
-    mul-number-taken-2
-    array-read-number-taken
-    number-taken-requires
-    add-i
-    loop-less
-    loop-again
-    returns
-    returns-2)
+    (tie.spec Inv-loop μ-loop loop-holds (λ c. search needs) (λ c. search needs) (λ c. search needs) (λ c. search needs) (λ c. search needs) (λ c. search needs)
+    (λ c κs. search needs) (λ c. search needs) (λ c. search needs) loop-again returns returns-2)

@@ -5,12 +5,9 @@ use Rattle.semantics.specs.Terms.{termAt}
 use Rattle.records.proofs.term_at.Statement.{statement}
 use Rattle.records.proofs.term_at.Tie as tie
 
-record-at-requires : tie.Need-record-at-requires
-record-at-requires c κs = search needs
-
 returns : tie.Need-returns
 unfolding termAt with
 returns c = rw (← c .record-at .ensures)
 
 pub term-at-spec : {M : Type 1} → statement M
-term-at-spec = tie.close (tie.spec record-at-requires returns)
+term-at-spec = tie.close (tie.spec (λ c κs. search needs) returns)

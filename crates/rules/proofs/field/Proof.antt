@@ -4,13 +4,6 @@ use Rattle.notation.proofs.Follow.{values}
 use Rattle.rules.proofs.field.Statement.{statement}
 use Rattle.rules.proofs.field.Tie as tie
 
-returns : tie.Need-returns
-unfolding fieldOf
-returns c = search values
-
-returns-2 : tie.Need-returns-2
-unfolding fieldOf
-returns-2 c = search values
-
 pub field-spec : {M : Type 1} → statement M
-field-spec = tie.close (tie.spec returns returns-2)
+unfolding fieldOf
+field-spec = tie.close (tie.spec (λ c. search values) (λ c. search values))

@@ -6,22 +6,12 @@ use Rattle.rules.proofs.Follow.{tests, good-size}
 use Rattle.rules.proofs.refusal.Statement.{statement}
 use Rattle.rules.proofs.refusal.Tie as tie
 
-bad-size-requires : tie.Need-bad-size-requires
-bad-size-requires c κs = search needs
-
-returns : tie.Need-returns
-unfolding ruleRefusalOf
-returns c = search tests
-
 cast-tests : tie.Need-cast-tests
 cast-tests c = omega (arith, good-size _ (c .before .bad-size .ensures) (c .if1 .left))
 
 tests-requires : tie.Need-tests-requires
 tests-requires c κs = omega (arith, good-size _ (c .before .bad-size .ensures) (c .if1 .left))
 
-returns-2 : tie.Need-returns-2
-unfolding ruleRefusalOf
-returns-2 c = search tests
-
 pub refusal-spec : {M : Type 1} → statement M
-refusal-spec = tie.close (tie.spec bad-size-requires returns cast-tests tests-requires returns-2)
+unfolding ruleRefusalOf
+refusal-spec = tie.close (tie.spec (λ c κs. search needs) (λ c. search tests) cast-tests tests-requires (λ c. search tests))

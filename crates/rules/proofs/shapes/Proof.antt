@@ -20,20 +20,8 @@ abbrev μ-loop : tie.MeasureT-loop
 loop-holds : tie.Need-loop-holds Inv-loop μ-loop
 loop-holds c = (search needs, up-start _)
 
-record-at-requires : tie.Need-record-at-requires Inv-loop μ-loop
-record-at-requires c κs = search needs
-
-shaped-requires : tie.Need-shaped-requires Inv-loop μ-loop
-shaped-requires c κs = search needs
-
 returns : tie.Need-returns Inv-loop μ-loop
 returns c = up-stop _ _ _ (c .before .before .before .loop-test .taken) (cc (not-true (c .before .shaped .result) (c .if1 .taken)))
-
-add-i : tie.Need-add-i Inv-loop μ-loop
-add-i c = search needs
-
-loop-less : tie.Need-loop-less Inv-loop μ-loop
-loop-less c = search needs
 
 loop-again : tie.Need-loop-again Inv-loop μ-loop
 loop-again c = (search needs, up-next _ _ (c .before .before .before .before .loop .inv .1) (cc (not-false (c .before .shaped .result) (c .if1 .left))))
@@ -44,14 +32,4 @@ returns-2 c = up-end _ _ _ (c .before .loop .inv .1) (c .before .loop .inv .0) (
 pub shapes-spec : {M : Type 1} → statement M
 shapes-spec =
     tie.close
-    (tie.spec
-    Inv-loop
-    μ-loop
-    loop-holds
-    record-at-requires
-    shaped-requires
-    returns
-    add-i
-    loop-less
-    loop-again
-    returns-2)
+    (tie.spec Inv-loop μ-loop loop-holds (λ c κs. search needs) (λ c κs. search needs) returns (λ c. search needs) (λ c. search needs) loop-again returns-2)

@@ -21,9 +21,6 @@ returns-4 : tie.Need-returns-4
 unfolding usesOf
 returns-4 c = search values depth 14 fits 8000
 
-operands-requires : tie.Need-operands-requires
-operands-requires c κs = search needs
-
 returns-5 : tie.Need-returns-5
 unfolding usesOf
 returns-5 c = search values depth 14 fits 8000
@@ -71,20 +68,5 @@ returns-15 c = search values depth 14 fits 8000
 pub uses-spec : {M : Type 1} → statement M
 uses-spec =
     tie.close
-    (tie.spec
-    returns
-    returns-2
-    returns-3
-    returns-4
-    operands-requires
-    returns-5
-    returns-6
-    returns-7
-    returns-8
-    returns-9
-    returns-10
-    returns-11
-    returns-12
-    returns-13
-    returns-14
-    returns-15)
+    (tie.spec returns returns-2 returns-3 returns-4 (λ c κs. search needs) returns-5 returns-6 returns-7 returns-8 returns-9 returns-10 returns-11 returns-12
+    returns-13 returns-14 returns-15)

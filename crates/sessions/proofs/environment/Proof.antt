@@ -4,14 +4,8 @@ use Rattle.fitting.proofs.Whole.{fresh-environment}
 use Rattle.sessions.proofs.environment.Statement.{statement}
 use Rattle.sessions.proofs.environment.Tie as tie
 
-slice-aggregate-open-all : tie.Need-slice-aggregate-open-all
-slice-aggregate-open-all c = search needs
-
-open-all-requires : tie.Need-open-all-requires
-open-all-requires c κs = search needs
-
 returns : tie.Need-returns
 returns c = record { sixteen = search needs; is = search (needs, fresh-environment) }
 
 pub environment-spec : {M : Type 1} → statement M
-environment-spec = tie.close (tie.spec slice-aggregate-open-all open-all-requires returns)
+environment-spec = tie.close (tie.spec (λ c. search needs) (λ c κs. search needs) returns)

@@ -6,24 +6,6 @@ use Rattle.sessions.proofs.ByRules.{evaluated-out, evaluated-refused}
 use Rattle.sessions.proofs.evaluated.Statement.{statement}
 use Rattle.sessions.proofs.evaluated.Tie as tie
 
-environment-requires : tie.Need-environment-requires
-environment-requires c κs = search needs
-
-eval-requires : tie.Need-eval-requires
-eval-requires c κs = search needs
-
-cast-wipe : tie.Need-cast-wipe
-cast-wipe c = search needs
-
-mul-wipe : tie.Need-mul-wipe
-mul-wipe c = search needs
-
-wipe-requires : tie.Need-wipe-requires
-wipe-requires c κs = search needs
-
-same-length : tie.Need-same-length
-same-length c = search needs
-
 returns : tie.Need-returns
 returns c =
     let ran = c .before .before .before .before .before .before .before .before .before in
@@ -32,15 +14,6 @@ returns c =
     let start = known .before in
     evaluated-refused (start .args .session) (now (start .args .table)) (now (start .args .rule)) (start .args .allowance) (start .pre .0) (start .pre .1)
     (entered .environment .ensures) (λ k. omega (arith, known .slice-known .given k)) (ran .eval .ensures .gives) (c .before .before .before .before .before .if1 .taken) (c .before .before .wipe .ensures)
-
-answer-requires : tie.Need-answer-requires
-answer-requires c κs = search needs
-
-advanced-requires : tie.Need-advanced-requires
-advanced-requires c κs = search needs
-
-same-length-2 : tie.Need-same-length-2
-same-length-2 c = search needs
 
 returns-2 : tie.Need-returns-2
 returns-2 c =
@@ -54,15 +27,5 @@ returns-2 c =
 pub evaluated-spec : {M : Type 1} → statement M
 evaluated-spec =
     tie.close
-    (tie.spec
-    environment-requires
-    eval-requires
-    cast-wipe
-    mul-wipe
-    wipe-requires
-    same-length
-    returns
-    answer-requires
-    advanced-requires
-    same-length-2
-    returns-2)
+    (tie.spec (λ c κs. search needs) (λ c κs. search needs) (λ c. search needs) (λ c. search needs) (λ c κs. search needs) (λ c. search needs) returns
+    (λ c κs. search needs) (λ c κs. search needs) (λ c. search needs) returns-2)

@@ -4,12 +4,9 @@ use Rattle.semantics.specs.Evaluate.{haltedAgain}
 use Rattle.sessions.proofs.halted_again.Statement.{statement}
 use Rattle.sessions.proofs.halted_again.Tie as tie
 
-advanced-requires : tie.Need-advanced-requires
-advanced-requires c κs = search needs
-
 returns : tie.Need-returns
 unfolding haltedAgain
 returns c = λ s. rw (c .advanced .ensures)
 
 pub halted-again-spec : {M : Type 1} → statement M
-halted-again-spec = tie.close (tie.spec advanced-requires returns)
+halted-again-spec = tie.close (tie.spec (λ c κs. search needs) returns)

@@ -5,14 +5,8 @@ use Prim.Native.Nat.{ℕ, _%_}
 use Rattle.walk.proofs.byte.Statement.{statement}
 use Rattle.walk.proofs.byte.Tie as tie
 
-number-requires : tie.Need-number-requires
-number-requires c κs = search needs
-
-cast-result : tie.Need-cast-result
-cast-result c = search needs
-
 returns : tie.Need-returns
 returns c = ap (λ (k : ℕ). k % 256) (c .number .ensures)
 
 pub byte-spec : {M : Type 1} → statement M
-byte-spec = tie.close (tie.spec number-requires cast-result returns)
+byte-spec = tie.close (tie.spec (λ c κs. search needs) (λ c. search needs) returns)

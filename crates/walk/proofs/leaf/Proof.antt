@@ -4,15 +4,6 @@ use Rattle.walk.proofs.Laws.{leaf-new, leaf-last}
 use Rattle.walk.proofs.leaf.Statement.{statement}
 use Rattle.walk.proofs.leaf.Tie as tie
 
-push-requires : tie.Need-push-requires
-push-requires c κs = search needs
-
-add-t11 : tie.Need-add-t11
-add-t11 c = search needs
-
-same-length : tie.Need-same-length
-same-length c = search needs
-
 returns : tie.Need-returns
 returns c = record { gives = search leaf-new; few = search needs }
 
@@ -20,4 +11,4 @@ returns-2 : tie.Need-returns-2
 returns-2 c = record { gives = search leaf-last; few = search needs }
 
 pub leaf-spec : {M : Type 1} → statement M
-leaf-spec = tie.close (tie.spec push-requires add-t11 same-length returns returns-2)
+leaf-spec = tie.close (tie.spec (λ c κs. search needs) (λ c. search needs) (λ c. search needs) returns returns-2)

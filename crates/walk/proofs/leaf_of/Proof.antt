@@ -5,17 +5,8 @@ use Rattle.walk.proofs.Laws.{past-end}
 use Rattle.walk.proofs.leaf_of.Statement.{statement}
 use Rattle.walk.proofs.leaf_of.Tie as tie
 
-mul-result : tie.Need-mul-result
-mul-result c = search needs
-
-array-copy-out-result : tie.Need-array-copy-out-result
-array-copy-out-result c = search needs
-
-returns : tie.Need-returns
-returns c = search needs
-
 returns-2 : tie.Need-returns-2
 returns-2 c = past-end (c .before .args .t1) (c .before .args .i) (omega (arith, c .before .good .0 .1 .0 .1))
 
 pub leaf-of-spec : {M : Type 1} → statement M
-leaf-of-spec = tie.close (tie.spec mul-result array-copy-out-result returns returns-2)
+leaf-of-spec = tie.close (tie.spec (λ c. search needs) (λ c. search needs) (λ c. search needs) returns-2)

@@ -19,38 +19,11 @@ loop-holds : tie.Need-loop-holds Inv-loop μ-loop
 unfolding from leavesIn
 loop-holds c = ((search needs, refl), refl)
 
-read-requires : tie.Need-read-requires Inv-loop μ-loop
-read-requires c κs = search needs
-
-mul-leaves : tie.Need-mul-leaves Inv-loop μ-loop
-mul-leaves c = search needs
-
-array-set-from-leaves : tie.Need-array-set-from-leaves Inv-loop μ-loop
-array-set-from-leaves c = search needs
-
-add-i : tie.Need-add-i Inv-loop μ-loop
-add-i c = search needs
-
-loop-less : tie.Need-loop-less Inv-loop μ-loop
-loop-less c = search needs
-
 loop-again : tie.Need-loop-again Inv-loop μ-loop
 loop-again c = ((search needs, search needs), search unpack-next)
-
-returns : tie.Need-returns Inv-loop μ-loop
-returns c = search unpack-end
 
 pub unpack-spec : {M : Type 1} → statement M
 unpack-spec =
     tie.close
-    (tie.spec
-    Inv-loop
-    μ-loop
-    loop-holds
-    read-requires
-    mul-leaves
-    array-set-from-leaves
-    add-i
-    loop-less
-    loop-again
-    returns)
+    (tie.spec Inv-loop μ-loop loop-holds (λ c κs. search needs) (λ c. search needs) (λ c. search needs) (λ c. search needs) (λ c. search needs) loop-again
+    (λ c. search unpack-end))

@@ -8,8 +8,5 @@ use Rattle.words.proofs.count_ones.Tie as tie
 cast-result : tie.Need-cast-result
 cast-result c = omega (arith, ones-le 16 (c .args .a) (search needs))
 
-returns : tie.Need-returns
-returns c = search needs
-
 pub count-ones-spec : {M : Type 1} → statement M
-count-ones-spec = tie.close (tie.spec cast-result returns)
+count-ones-spec = tie.close (tie.spec cast-result (λ c. search needs))

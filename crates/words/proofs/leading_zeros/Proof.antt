@@ -8,8 +8,5 @@ use Rattle.words.proofs.leading_zeros.Tie as tie
 cast-result : tie.Need-cast-result
 cast-result c = omega (arith, leading-le 16 (c .args .a))
 
-returns : tie.Need-returns
-returns c = search needs
-
 pub leading-zeros-spec : {M : Type 1} → statement M
-leading-zeros-spec = tie.close (tie.spec cast-result returns)
+leading-zeros-spec = tie.close (tie.spec cast-result (λ c. search needs))

@@ -5,11 +5,8 @@ use Rattle.print.proofs.Decimals.{spelled}
 use Rattle.print.proofs.text.spell.Statement.{statement}
 use Rattle.print.proofs.text.spell.Tie as tie
 
-decimal-requires : tie.Need-decimal-requires
-decimal-requires c κs = search needs
-
 returns : tie.Need-returns
 returns c = let d = c .decimal .ensures in spelled (omega arith) (d .0) (d .1 .0) (d .1 .1)
 
 pub spell-spec : {M : Type 1} → statement M
-spell-spec = tie.close (tie.spec decimal-requires returns)
+spell-spec = tie.close (tie.spec (λ c κs. search needs) returns)

@@ -5,15 +5,6 @@ use Rattle.semantics.specs.States.{assertOf}
 use Rattle.states.proofs.Standing.assert.Statement.{statement}
 use Rattle.states.proofs.Standing.assert.Tie as tie
 
-merge-asserted-requires : tie.Need-merge-asserted-requires
-merge-asserted-requires c κs = search needs
-
-same-length : tie.Need-same-length
-same-length c = search needs
-
-returns : tie.Need-returns
-unfolding assertOf
-returns c = search steps depth 12
-
 pub assert-spec : {M : Type 1} → statement M
-assert-spec = tie.close (tie.spec merge-asserted-requires same-length returns)
+unfolding assertOf
+assert-spec = tie.close (tie.spec (λ c κs. search needs) (λ c. search needs) (λ c. search steps depth 12))
