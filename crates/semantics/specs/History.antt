@@ -12,7 +12,7 @@ use Rattle.semantics.specs.declared.Evaluated.{Evaluated}
 use Rattle.semantics.specs.Numbers.{trueNumber}
 use Rattle.semantics.specs.Opening.{openOf}
 use Rattle.semantics.specs.States.{stateOf, haltOf}
-use Rattle.semantics.specs.Answers.{resultIn, depthIn}
+use Rattle.semantics.specs.Answers.{resultIn}
 use Rattle.semantics.specs.Evaluate.{evaluateOf}
 use Rattle.semantics.specs.Run.{Value, truth, Ended, gives, after, runOf, inputsBound}
 
