@@ -58,7 +58,7 @@ extern "C" {
  *
  * numbers, 32 bytes: the number for input i stands at 2 * i, two bytes; a constant ignores its own
  *
- * result, 8 bytes: what desk_read reads; of an answer, S, T, the value and the halted mark
+ * result, 8 bytes: what desk_read reads; an answer begins with it
  *   0  S, two bytes
  *   2  T, two bytes
  *   4  value: the number of a term, two bytes; of a halt it is not looked at
@@ -66,11 +66,7 @@ extern "C" {
  *   7  zero
  *
  * answer, 10 bytes: written by desk_evaluate
- *   0  halted mark: 0 or 1
- *   1  zero
- *   2  S, two bytes
- *   4  T, two bytes
- *   6  value: the number of a term, two bytes; 0 of a halt
+ *   0  result, 8 bytes; its value is 0 of a halt
  *   8  depth: the smallest allowance that gives this result, two bytes
  *
  * reading, 4 bytes: written by desk_read and desk_run
@@ -100,13 +96,13 @@ enum desk_input {
     DESK_FREE_WORD = 3
 };
 
-/* What a reading's first byte says. */
+/* What a reading's first byte says: the kind of the term that stands for a value, or of the record that stopped. */
 enum desk_reading {
-    DESK_TRUTH = 0,
-    DESK_WORD = 1,
-    DESK_PROCEDURE = 2,
-    DESK_ABORT = 3,
-    DESK_ERROR = 4
+    DESK_TRUTH = 1,
+    DESK_WORD = 2,
+    DESK_PROCEDURE = 7,
+    DESK_ABORT = 8,
+    DESK_ERROR = 9
 };
 
 /* Opens a session: the table then holds the terms of the inputs and zeros, and the session is written.

@@ -8,11 +8,11 @@ use Rattle.semantics.specs.declared.Input.{Input}
 use Rattle.semantics.specs.declared.Opened.{Opened}
 use Rattle.semantics.specs.declared.Session.{Session}
 use Rattle.semantics.specs.declared.Evaluated.{Evaluated}
-use Rattle.semantics.specs.Answers.{answerValues, outcomeValues}
 use Rattle.semantics.specs.Opening.{openOf}
 use Rattle.semantics.specs.Evaluate.{evaluateOf}
 use Rattle.semantics.specs.Reading.{readOf}
 use Rattle.semantics.specs.History.{Call, History, begun, called, calledAll}
+use Rattle.forms.specs.Answers.{answerValues, outcomeValues}
 
 pub record Case : Type 0 where
   pub given : List ℕ

@@ -24,7 +24,8 @@ use Rattle.semantics.specs.Reading.{readOf}
 use Rattle.semantics.specs.PlainRun.{runPlainlyOf}
 use Rattle.rules.proofs.Follow.{and-both}
 use Rattle.forms.specs.Forms.{inputsIn, inputsFormed, numbersIn, sessionIn, sessionFormed, resultIn, sessionBytes}
-use Rattle.desk.specs.Exports.{deskOpen, deskFits, evaluatedForm, deskEvaluate, outcomeForm, outcomeForms, readUnformed, deskRead, runUnformed, deskRun}
+use Rattle.forms.specs.Answers.{answerValues, outcomeValues, writtenAt}
+use Rattle.desk.specs.Exports.{deskOpen, deskFits, evaluatedForm, deskEvaluate, outcomeForm, readUnformed, deskRead, runUnformed, deskRun}
 use Rattle.forms.proofs.Written.{put-whole}
 
 -- ---- a length that is tested
@@ -36,12 +37,6 @@ module _ {A : Type 0} (x y : A) {z : A} (i j : ℕ) where
   pub long-not : (i ≡ j → ⊥) → z ≡ x → z ≡ (unless eqb i j then x else y)
   unfolding unless_then_else_
   long-not h g = rw (ne-eqb i j h) g
-
--- a test that does not refuse
-passed : (b : Bool) (k y : ℕ) → 0 < k → (unless b then k else y) ≡ 0 → (b ≡ true) × (y ≡ 0)
-unfolding unless_then_else_
-passed true k y h e = (refl, e)
-passed false k y h e = absurd (omega arith)
 
 -- ---- opening
 module _ (inputs table session : List ℕ) {b : Bool} (eb : b ≡ badTableSize (length table)) where
@@ -100,21 +95,20 @@ module _ (session table rule : List ℕ) (allowance : ℕ) (answer : List ℕ) {
     evaluate-place n = rw (← eb, h, ne-eqb (length answer) 10 n)
 
     module _ (l : length answer ≡ 10) {x : Session} (ex : x ≡ sessionIn session) {e : Evaluated} {t : List ℕ} (ee : (e, t) ≡ evaluateOf rule allowance x table) where
-      pub evaluate-whole : {a : ℕ} {y z : List ℕ} → ((s : List ℕ) → (a, y, s, z) ≡ evaluatedForm (e .answer) (e .session) session s answer)
-          → (a, y, t, z) ≡ deskEvaluate session table rule allowance answer
-      unfolding deskEvaluate unless_then_else_ with
-      evaluate-whole f = rw (← eb, h, eq-eqb (length answer) 10 l, ← ex, ← ee) (f t)
+      module _ {k : ℕ} {z : List ℕ} (ek : (k, z) ≡ writtenAt (answerValues (e .answer)) answer) where
+        pub evaluate-refused : (k ≡ 0 → ⊥) → (k, session, t, z) ≡ deskEvaluate session table rule allowance answer
+        unfolding deskEvaluate evaluatedForm unless_then_else_ with if_equals_then_else_
+        evaluate-refused n = rw (← eb, h, eq-eqb (length answer) 10 l, ← ex, ← ee, ← ek, ne-eqb k 0 n)
 
--- an accepted rule's answer
-pub accepted-as : {p q : Answer} → p ≡ q → (x : Session) (session answer : List ℕ) {k l : List ℕ} → ((t : List ℕ) → evaluatedForm q x session t answer ≡ (0, k, t, l))
-    → {a : ℕ} {y z : List ℕ} → (a ≡ 0) × (y ≡ k) × (z ≡ l) → (t : List ℕ) → (a, y, t, z) ≡ evaluatedForm p x session t answer
-accepted-as e x session answer f g t = rw (e, f t, g .0, g .1, g .2)
+        pub evaluate-accepted : k ≡ 0 → length (sessionBytes (e .session)) ≡ 74 → {y : List ℕ} → y ≡ sets session 0 (sessionBytes (e .session))
+            → (0, y, t, z) ≡ deskEvaluate session table rule allowance answer
+        unfolding deskEvaluate evaluatedForm unless_then_else_ with if_equals_then_else_
+        evaluate-accepted n m ey =
+            rw (← eb, h, eq-eqb (length answer) 10 l, ← ex, ← ee, ← ek, n, put-whole session (sessionBytes (e .session)) (session-long ∙ sym m) ey)
 
 -- ---- reading and running
-pub told-as : {p q : Outcome} → p ≡ q → (reading : List ℕ) {l : List ℕ} → outcomeForm q reading ≡ (0, l) → {a : ℕ} {y : List ℕ} → (a ≡ 0) × (y ≡ l) → (a, y) ≡ outcomeForm p reading
-told-as e reading f g = rw (e, f, g .0, g .1)
-
-told : (p : Outcome × List ℕ) (reading : List ℕ) {o : Outcome} {y : List ℕ} → (o, y) ≡ p → {a : ℕ} {z : List ℕ} → (a, z) ≡ outcomeForm o reading → (a, y, z) ≡ outcomeForms p reading
+told : (p : Outcome × List ℕ) (reading : List ℕ) {o : Outcome} {y : List ℕ} → (o, y) ≡ p → {a : ℕ} {z : List ℕ} → (a, z) ≡ writtenAt (outcomeValues o) reading → (a, y, z) ≡ outcomeForm p reading
+unfolding outcomeForm with
 told p reading ep ea = rw (← ep, ← ea)
 
 module _ (session table numbers result work reading : List ℕ) {k : ℕ} (ek : k ≡ readUnformed session numbers result (length reading)) where
@@ -123,16 +117,8 @@ module _ (session table numbers result work reading : List ℕ) {k : ℕ} (ek : 
   read-unformed n ey = rw (← ek, ne-eqb k 0 n, ey)
 
   module _ (h : k ≡ 0) where
-    pub read-place : length reading ≡ 4
-    unfolding readUnformed
-    read-place =
-        let s = passed _ _ _ (omega arith) (sym ek ∙ h) in
-        let n = passed _ _ _ (omega arith) (s .1) in
-        let r = passed _ _ _ (omega arith) (n .1) in
-        eqb-true (length reading) 4 (passed _ _ _ (omega arith) (r .1) .0)
-
     module _ {x : Session} (ex : x ≡ sessionIn session) {ns : List ℕ} (en : ns ≡ numbersIn numbers) {r : Result} (er : r ≡ resultIn result) where
-      pub read-whole : {o : Outcome} {y : List ℕ} → (o, y) ≡ readOf x table ns r work → {a : ℕ} {z : List ℕ} → (a, z) ≡ outcomeForm o reading
+      pub read-whole : {o : Outcome} {y : List ℕ} → (o, y) ≡ readOf x table ns r work → {a : ℕ} {z : List ℕ} → (a, z) ≡ writtenAt (outcomeValues o) reading
           → (a, y, z) ≡ deskRead session table numbers result work reading
       unfolding deskRead with if_equals_then_else_
       read-whole eo ea = rw (← ek, eq-eqb k 0 h, ← ex, ← en, ← er) (told _ reading eo ea)
@@ -143,15 +129,8 @@ module _ (inputs numbers rule : List ℕ) (allowance : ℕ) (store reading : Lis
   run-unformed n ey = rw (← ek, ne-eqb k 0 n, ey)
 
   module _ (h : k ≡ 0) where
-    pub run-place : length reading ≡ 4
-    unfolding runUnformed
-    run-place =
-        let i = passed _ _ _ (omega arith) (sym ek ∙ h) in
-        let n = passed _ _ _ (omega arith) (i .1) in
-        eqb-true (length reading) 4 (passed _ _ _ (omega arith) (n .1) .0)
-
     module _ {xs : List Input} (ex : xs ≡ inputsIn inputs) {ns : List ℕ} (en : ns ≡ numbersIn numbers) where
-      pub run-whole : {o : Outcome} {y : List ℕ} → (o, y) ≡ runPlainlyOf xs ns rule allowance store → {a : ℕ} {z : List ℕ} → (a, z) ≡ outcomeForm o reading
+      pub run-whole : {o : Outcome} {y : List ℕ} → (o, y) ≡ runPlainlyOf xs ns rule allowance store → {a : ℕ} {z : List ℕ} → (a, z) ≡ writtenAt (outcomeValues o) reading
           → (a, y, z) ≡ deskRun inputs numbers rule allowance store reading
       unfolding deskRun with if_equals_then_else_
       run-whole eo ea = rw (← ek, eq-eqb k 0 h, ← ex, ← en) (told _ reading eo ea)

@@ -2,24 +2,22 @@
 -- tested first, then the operation's own definition decides. What is lent to a refused call stays as it was, but for the work list and the
 -- store, which are zero. Assumes nothing.
 use Prim.Native.Nat.{ℕ}
-use mathlib.Core.Bool.{true, false, _&&_}
+use mathlib.Core.Bool.{_&&_}
 use mathlib.Core.List.{List}
 use lib.Dec.{eqb}
 use lib.ListN.{length, replicate}
-use Rattle.notation.specs.Notation.{with, bit, if_then_else_, if_equals_then_else_, unless_then_else_}
-use Rattle.semantics.specs.declared.Session.{Session}
+use Rattle.notation.specs.Notation.{with, if_then_else_, if_equals_then_else_, unless_then_else_}
 use Rattle.semantics.specs.declared.Opened.{Opened}
-use Rattle.semantics.specs.declared.Answer.{Answer}
-use Rattle.semantics.specs.declared.Answer.the-variants.{Out, Halt, Refused}
+use Rattle.semantics.specs.declared.Evaluated.{Evaluated}
 use Rattle.semantics.specs.declared.Outcome.{Outcome}
-use Rattle.semantics.specs.declared.Outcome.the-variants.{Truth, Word, Procedure, Abort, Error, Refused as NoOutcome}
 use Rattle.semantics.specs.Numbers.{tableSize, badInput, misfit, badNumber, badResult, workShort, storeFull}
 use Rattle.semantics.specs.Opening.{badTableSize, openOf}
 use Rattle.semantics.specs.Fits.{fitsOf}
 use Rattle.semantics.specs.Evaluate.{evaluateOf}
 use Rattle.semantics.specs.Reading.{readOf}
 use Rattle.semantics.specs.PlainRun.{runPlainlyOf}
-use Rattle.forms.specs.Forms.{sessionLength, numbersLength, answerLength, readingLength, inputsIn, inputsFormed, numbersIn, sessionIn, sessionFormed, resultIn, resultFormed, sessionBytes, answerBytes, readingBytes, aTruth, aWord, aProcedure, anAbort, anError}
+use Rattle.forms.specs.Forms.{sessionLength, numbersLength, answerLength, readingLength, inputsIn, inputsFormed, numbersIn, sessionIn, sessionFormed, resultIn, resultFormed, sessionBytes}
+use Rattle.forms.specs.Answers.{answerValues, outcomeValues, writtenAt}
 
 -- ---- desk_open: the answer, the table and the session's place then
 
@@ -40,30 +38,22 @@ deskFits session table = if sessionFormed session && fitsOf (sessionIn session) 
 
 -- ---- desk_evaluate: the answer; session, table and the answer's place then
 
-abbrev pub evaluatedForm : Answer → Session → List ℕ → List ℕ → List ℕ → ℕ × List ℕ × List ℕ × List ℕ
-evaluatedForm (Out x v d) y session table answer = (0, sessionBytes y, table, answerBytes false x v d)
-evaluatedForm (Halt x d) y session table answer = (0, sessionBytes y, table, answerBytes true x 0 d)
-evaluatedForm (Refused k) y session table answer = (k, session, table, answer)
+-- an answer that is no refusal advances the session
+unfoldable pub evaluatedForm : Evaluated × List ℕ → List ℕ → List ℕ → ℕ × List ℕ × List ℕ × List ℕ
+evaluatedForm e session answer =
+    with (writtenAt (answerValues (e .0 .answer)) answer) λ w.
+    (w .0, (if w .0 equals 0 then sessionBytes (e .0 .session) else session), e .1, w .1)
 
 -- the session by 3, the answer's place by 14
 unfoldable pub deskEvaluate : List ℕ → List ℕ → List ℕ → ℕ → List ℕ → ℕ × List ℕ × List ℕ × List ℕ
 deskEvaluate session table rule allowance answer =
     unless sessionFormed session then (misfit, session, table, answer) else
     unless eqb (length answer) answerLength then (badResult, session, table, answer) else
-    with (evaluateOf rule allowance (sessionIn session) table) λ e. evaluatedForm (e .0 .answer) (e .0 .session) session (e .1) answer
+    evaluatedForm (evaluateOf rule allowance (sessionIn session) table) session answer
 
--- ---- what was read or run: the answer, and the reading's place then
-abbrev pub outcomeForm : Outcome → List ℕ → ℕ × List ℕ
-outcomeForm (Truth b) reading = (0, readingBytes aTruth (bit b))
-outcomeForm (Word w) reading = (0, readingBytes aWord w)
-outcomeForm (Procedure i) reading = (0, readingBytes aProcedure i)
-outcomeForm Abort reading = (0, readingBytes anAbort 0)
-outcomeForm Error reading = (0, readingBytes anError 0)
-outcomeForm (NoOutcome k) reading = (k, reading)
-
--- with the work list, or the store, then
-abbrev pub outcomeForms : Outcome × List ℕ → List ℕ → ℕ × List ℕ × List ℕ
-outcomeForms o reading = (outcomeForm (o .0) reading .0, o .1, outcomeForm (o .0) reading .1)
+-- ---- what was read or run: the answer, the work list or the store, and the reading's place then
+unfoldable pub outcomeForm : Outcome × List ℕ → List ℕ → ℕ × List ℕ × List ℕ
+outcomeForm o reading = with (writtenAt (outcomeValues (o .0)) reading) λ w. (w .0, o .1, w .1)
 
 -- refused by the number k
 abbrev pub unread : ℕ → List ℕ → List ℕ → ℕ × List ℕ × List ℕ
@@ -83,7 +73,7 @@ readUnformed session numbers result l =
 unfoldable pub deskRead : List ℕ → List ℕ → List ℕ → List ℕ → List ℕ → List ℕ → ℕ × List ℕ × List ℕ
 deskRead session table numbers result work reading =
     with (readUnformed session numbers result (length reading)) λ k.
-    if k equals 0 then outcomeForms (readOf (sessionIn session) table (numbersIn numbers) (resultIn result) work) reading else
+    if k equals 0 then outcomeForm (readOf (sessionIn session) table (numbersIn numbers) (resultIn result) work) reading else
     unread k work reading
 
 -- ---- desk_run: the answer, the store and the reading's place then
@@ -99,5 +89,5 @@ runUnformed inputs numbers l =
 unfoldable pub deskRun : List ℕ → List ℕ → List ℕ → ℕ → List ℕ → List ℕ → ℕ × List ℕ × List ℕ
 deskRun inputs numbers rule allowance store reading =
     with (runUnformed inputs numbers (length reading)) λ k.
-    if k equals 0 then outcomeForms (runPlainlyOf (inputsIn inputs) (numbersIn numbers) rule allowance store) reading else
+    if k equals 0 then outcomeForm (runPlainlyOf (inputsIn inputs) (numbersIn numbers) rule allowance store) reading else
     unread k store reading

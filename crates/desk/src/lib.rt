@@ -4,34 +4,15 @@
 //   session   74 bytes: the inputs, then count, S, T and accepted rules, two bytes each, the halted mark and a zero
 //   numbers   32 bytes: 16 times two bytes
 //   result     8 bytes: S, T and the value, two bytes each, the halted mark and a zero
-//   answer    10 bytes: the halted mark and a zero, then S, T, the value (0 of a halt) and the depth, two bytes each
-//   reading    4 bytes: 0 a truth, 1 a word, 2 a procedure, 3 an abort or 4 an error; a zero; its number, two bytes
+//   answer    10 bytes: S, T, the value (0 of a halt), the halted mark and the depth, two bytes each
+//   reading    4 bytes: 1 a truth, 2 a word, 7 a procedure, 8 an abort or 9 an error, and its number, two bytes each
 // What is not of its form is refused before the operation's own tests: inputs by 2, a session by 3, numbers by 13, a
 // result or an answer's place by 14, a reading's place by 15, or by 16 for a run. A refusal leaves what is lent as it
 // was, but for the work list and the store, which are zero on every return. No public function has a `requires`.
-use semantics::Answer;
-use semantics::Outcome;
-use semantics::Session;
-use semantics::State;
 use semantics::numbers;
 ghost use mathlib.Core.Path.{_≡_};
-ghost use mathlib.Core.List.{List};
-ghost use Prim.Native.Nat.{ℕ};
-ghost use lib.ListN.{length};
 ghost use Rattle.semantics.specs.Rules.{ruleRefusalOf};
-ghost use Rattle.forms.specs.Forms.{sessionBytes, answerBytes, readingBytes};
-ghost use Rattle.desk.specs.Exports.{deskOpen, deskFits, evaluatedForm, deskEvaluate, outcomeForm, readUnformed, deskRead, runUnformed, deskRun};
-
-// What a reading's first byte says.
-const A_TRUTH: u8 = 0;
-
-const A_WORD: u8 = 1;
-
-const A_PROCEDURE: u8 = 2;
-
-const AN_ABORT: u8 = 3;
-
-const AN_ERROR: u8 = 4;
+ghost use Rattle.desk.specs.Exports.{deskOpen, deskFits, deskEvaluate, readUnformed, deskRead, runUnformed, deskRun};
 
 // Opens a session over a table and writes it. Refused by 1, 2 or, where the session has not its length, 3.
 #[no_mangle]
@@ -78,40 +59,6 @@ pub extern "C" fn desk_fits(session: &[u8], table: &[u8]) -> u8
     numbers::MISFIT
 }
 
-// A session and an answer, at their places.
-fn put_evaluated(
-    session: &mut [u8],
-    x: Session,
-    answer: &mut [u8],
-    halted: bool,
-    state: State,
-    value: u16,
-    depth: u16,
-) -> u8
-    requires { ⌜ (length (now session) ≡ 74) × (length (now answer) ≡ 10) ⌝ }
-    ensures { λ r. ⌜ (r ≡ 0) × (now (session .exit) ≡ sessionBytes x) × (now (answer .exit) ≡ answerBytes halted state value depth) ⌝ }
-{
-    forms::put_session(session, x);
-    forms::put_answer(answer, halted, state, value, depth);
-    0
-}
-
-// What an evaluation answered, and the session then, at their places; or the refusal.
-fn evaluated(a: Answer, x: Session, session: &mut [u8], answer: &mut [u8]) -> u8
-    requires { ⌜ (length (now session) ≡ 74) × (length (now answer) ≡ 10) ⌝ }
-    ensures { λ r. ⌜ ((t : List ℕ) → (r, now (session .exit), t, now (answer .exit)) ≡ evaluatedForm a x (now (session .entry)) t (now (answer .entry))) ⌝ }
-{
-    match a {
-        Answer::Out {
-            state,
-            value,
-            depth,
-        } => put_evaluated(session, x, answer, false, state, value, depth),
-        Answer::Halt { state, depth } => put_evaluated(session, x, answer, true, state, 0, depth),
-        Answer::Refused(k) => k,
-    }
-}
-
 // Evaluates a rule in a session over a table, and advances both.
 #[no_mangle]
 pub extern "C" fn desk_evaluate(
@@ -131,32 +78,13 @@ pub extern "C" fn desk_evaluate(
     }
     let e = sessions::evaluate(forms::session_in(session), table, rule, allowance);
     let a = e.answer;
-    let x = e.session;
-    evaluated(a, x, session, answer)
-}
-
-// A reading at its place.
-fn put_reading(reading: &mut [u8], tag: u8, n: u16) -> u8
-    requires { ⌜ length (now reading) ≡ 4 ⌝ }
-    ensures { λ r. ⌜ (r ≡ 0) × (now (reading .exit) ≡ readingBytes tag n) ⌝ }
-{
-    forms::put_tagged(reading, tag, n);
-    0
-}
-
-// What was read or run, at its place; or the refusal.
-fn answered(o: Outcome, reading: &mut [u8]) -> u8
-    requires { ⌜ length (now reading) ≡ 4 ⌝ }
-    ensures { λ r. ⌜ (r, now (reading .exit)) ≡ outcomeForm o (now (reading .entry)) ⌝ }
-{
-    match o {
-        Outcome::Truth(b) => put_reading(reading, A_TRUTH, forms::bit_of(b) as u16),
-        Outcome::Word(w) => put_reading(reading, A_WORD, w),
-        Outcome::Procedure(i) => put_reading(reading, A_PROCEDURE, i),
-        Outcome::Abort => put_reading(reading, AN_ABORT, 0),
-        Outcome::Error => put_reading(reading, AN_ERROR, 0),
-        Outcome::Refused(k) => k,
+    let k = forms::put_answer(answer, a);
+    if k != 0 {
+        return k;
     }
+    let x = e.session;
+    forms::put_session(session, x);
+    0
 }
 
 // The first of session, numbers, result and reading that is not of its form, as a refusal.
@@ -203,7 +131,7 @@ pub extern "C" fn desk_read(
         forms::result_in(result),
         work,
     );
-    answered(o, reading)
+    forms::put_outcome(reading, o)
 }
 
 // The first of inputs, numbers and reading that is not of its form, as a refusal.
@@ -247,5 +175,5 @@ pub extern "C" fn desk_run(
         allowance,
         store,
     );
-    answered(o, reading)
+    forms::put_outcome(reading, o)
 }

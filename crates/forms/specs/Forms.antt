@@ -7,7 +7,6 @@ use lib.Dec.{eqb, ltb}
 use lib.ListN.{getD, length}
 use Rattle.notation.specs.Notation.{bit}
 use Rattle.semantics.specs.declared.Input.{Input}
-use Rattle.semantics.specs.declared.State.{State}
 use Rattle.semantics.specs.declared.Result.{Result}
 use Rattle.semantics.specs.declared.Session.{Session}
 use Rattle.semantics.specs.Numbers.{inputCount}
@@ -73,7 +72,7 @@ sessionIn s =
 unfoldable pub sessionFormed : List ℕ → Bool
 sessionFormed s = eqb (length s) sessionLength && (inputsZeroed s && markFormed s 72)
 
--- result: S, T and the value, two bytes each; the halted mark
+-- result: S, T and the value, two bytes each; the halted mark: the beginning of an answer
 unfoldable pub resultIn : List ℕ → Result
 resultIn s = record { state = record { assumed = pairAt s 0; asserted = pairAt s 2 }; value = pairAt s 4; halted = eqb (getD s 6 0) 1 }
 
@@ -97,27 +96,3 @@ inputsBytes (x ∷ xs) = inputBytes x ++ inputsBytes xs
 -- a session, cut as above
 unfoldable pub sessionBytes : Session → List ℕ
 sessionBytes x = inputsBytes (x .inputs) ++ (pairsOf (x .count ∷ x .state .assumed ∷ x .state .asserted ∷ x .accepted ∷ []) ++ (bit (x .halted) ∷ 0 ∷ []))
-
--- answer: the halted mark; S, T, the value (0 of a halt) and the depth, two bytes each
-abbrev pub answerBytes : Bool → State → ℕ → ℕ → List ℕ
-answerBytes halted x v d = bit halted ∷ 0 ∷ pairsOf (x .assumed ∷ x .asserted ∷ v ∷ d ∷ [])
-
--- reading: what was read, a zero, and its number of two bytes
-abbrev pub readingBytes : ℕ → ℕ → List ℕ
-readingBytes tag n = tag ∷ 0 ∷ pairsOf (n ∷ [])
-
--- what a reading's first byte says: a truth, a word, a procedure, an abort or an error
-abbrev pub aTruth : ℕ
-aTruth = 0
-
-abbrev pub aWord : ℕ
-aWord = 1
-
-abbrev pub aProcedure : ℕ
-aProcedure = 2
-
-abbrev pub anAbort : ℕ
-anAbort = 3
-
-abbrev pub anError : ℕ
-anError = 4

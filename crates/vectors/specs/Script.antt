@@ -9,12 +9,12 @@ use Rattle.semantics.specs.declared.Result.{Result}
 use Rattle.semantics.specs.declared.Session.{Session}
 use Rattle.semantics.specs.declared.Opened.{Opened}
 use Rattle.semantics.specs.declared.Evaluated.{Evaluated}
-use Rattle.semantics.specs.Answers.{answerValues, outcomeValues}
 use Rattle.semantics.specs.Terms.{termAt}
 use Rattle.semantics.specs.Opening.{openOf}
 use Rattle.semantics.specs.PlainRun.{runPlainlyOf}
 use Rattle.semantics.specs.History.{Call, History, begun, called}
 use Rattle.semantics.specs.Print.{Line, out, halt, refusal, numbers}
+use Rattle.forms.specs.Answers.{outcomeValues}
 use Rattle.cases.specs.Table.{answer, reading, call}
 
 -- A plain run has the opening's inputs and a store of so many bytes.

@@ -1,14 +1,12 @@
 //! Evaluations: the desk and the second evaluator go through the same sessions side by side.
 
 use crate::compare::{compare_fits, result_of, FALSE};
-use crate::desk;
+use crate::desk::{self, answer_bytes, UNANSWERED};
 use crate::rules::{chained_targets, guarded_update, self_application};
 use crate::session_trials::readings;
 use crate::tally::Tally;
 use second::dice::{record, rule, Dice};
 use second::{evaluate, open, Answer, Input, Session};
-
-const UNANSWERED: [u8; 10] = [0xa5; 10];
 
 /// One session, kept by both.
 pub struct Pair {
@@ -46,20 +44,6 @@ impl Pair {
         tally.same_bytes("evaluate's table", &self.ours, &self.theirs);
         answer
     }
-}
-
-/// The refusal or 0, and the answer's ten bytes then.
-fn answer_bytes(answer: Answer) -> (u8, [u8; 10]) {
-    let (halted, s, t, value, depth) = match answer {
-        Answer::Out { s, t, value, depth } => (0, s, t, value, depth),
-        Answer::Halt { s, t, depth } => (1, s, t, 0, depth),
-        Answer::Refused(refusal) => return (refusal, UNANSWERED),
-    };
-    let mut bytes = [halted, 0, 0, 0, 0, 0, 0, 0, 0, 0];
-    for (place, number) in bytes[2..].chunks_exact_mut(2).zip([s, t, value, depth]) {
-        place.copy_from_slice(&number.to_le_bytes());
-    }
-    (0, bytes)
 }
 
 pub fn all(tally: &mut Tally) {
@@ -258,7 +242,7 @@ fn ran_in_turn(inputs: &[u8], numbers: &[u8], rules: &[(Vec<u8>, u16)]) -> [u8; 
     for (bytes, depth) in rules {
         let mut store = vec![0; 65_536];
         desk::run(inputs, numbers, bytes, *depth, &mut store, &mut reading);
-        if reading[0] > 2 {
+        if reading[0] >= 8 {
             break;
         }
     }

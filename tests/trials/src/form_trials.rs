@@ -8,8 +8,8 @@ use second::ResultOf;
 
 pub fn all(tally: &mut Tally) {
     let good = Forms::good();
-    let truth = (0, vec![0, 0, 1, 0]);
-    let no = (0, vec![0, 0, 0, 0]);
+    let truth = (0, vec![1, 0, 1, 0]);
+    let no = (0, vec![1, 0, 0, 0]);
     tally.same("a read", good.read(4), no);
     tally.same("a run", good.run(4), truth);
     tally.same("an opening", good.open(74), (0, false));

@@ -1,6 +1,6 @@
 -- `desk::desk_evaluate` meets its contract: each test in its order. Assumes nothing.
 use borrow.Author.Needs.{needs}
-use Rattle.desk.proofs.Answers.{evaluate-session, session-long, evaluate-place, evaluate-whole}
+use Rattle.desk.proofs.Answers.{evaluate-session, evaluate-place, evaluate-refused, evaluate-accepted}
 use Rattle.desk.proofs.desk_evaluate.Statement.{statement}
 use Rattle.desk.proofs.desk_evaluate.Tie as tie
 
@@ -25,8 +25,8 @@ session-in-requires c κs = search needs
 evaluate-requires : tie.Need-evaluate-requires
 evaluate-requires c κs = search needs
 
-evaluated-requires : tie.Need-evaluated-requires
-evaluated-requires c κs = (search session-long, search needs)
+put-answer-requires : tie.Need-put-answer-requires
+put-answer-requires c κs = search needs
 
 same-length-3 : tie.Need-same-length-3
 same-length-3 c = search needs
@@ -38,10 +38,22 @@ same-length-5 : tie.Need-same-length-5
 same-length-5 c = search needs
 
 returns-3 : tie.Need-returns-3
-returns-3 c =
-    let known = c .before .before .before .before .before .before .before .before .before .before in
-    let formed = known .before .before .before .before in
-    evaluate-whole _ _ _ _ _ (formed .before .before .session-formed .ensures) (formed .before .if1 .taken) (formed .if2 .left) (known .before .before .session-in .ensures) (known .evaluate .ensures) (c .before .before .before .before .evaluated .ensures)
+returns-3 c = search (needs, evaluate-refused)
+
+put-session-requires : tie.Need-put-session-requires
+put-session-requires c κs = search needs
+
+same-length-6 : tie.Need-same-length-6
+same-length-6 c = search needs
+
+same-length-7 : tie.Need-same-length-7
+same-length-7 c = search needs
+
+same-length-8 : tie.Need-same-length-8
+same-length-8 c = search needs
+
+returns-4 : tie.Need-returns-4
+returns-4 c = search (needs, evaluate-accepted)
 
 pub desk-evaluate-spec : {M : Type 1} → statement M
 desk-evaluate-spec =
@@ -54,8 +66,13 @@ desk-evaluate-spec =
     returns-2
     session-in-requires
     evaluate-requires
-    evaluated-requires
+    put-answer-requires
     same-length-3
     same-length-4
     same-length-5
-    returns-3)
+    returns-3
+    put-session-requires
+    same-length-6
+    same-length-7
+    same-length-8
+    returns-4)

@@ -1,6 +1,6 @@
 -- `desk::desk_read` meets its contract. Assumes nothing.
 use borrow.Author.Needs.{needs}
-use Rattle.desk.proofs.Answers.{read-unformed, read-place, read-whole}
+use Rattle.desk.proofs.Answers.{read-unformed, read-whole}
 use Rattle.desk.proofs.desk_read.Statement.{statement}
 use Rattle.desk.proofs.desk_read.Tie as tie
 
@@ -28,8 +28,8 @@ result-in-requires c κs = search needs
 read-requires : tie.Need-read-requires
 read-requires c κs = search needs
 
-answered-requires : tie.Need-answered-requires
-answered-requires c κs = search read-place
+put-outcome-requires : tie.Need-put-outcome-requires
+put-outcome-requires c κs = search needs
 
 same-length-2 : tie.Need-same-length-2
 same-length-2 c = search needs
@@ -38,11 +38,7 @@ same-length-3 : tie.Need-same-length-3
 same-length-3 c = search needs
 
 returns-2 : tie.Need-returns-2
-returns-2 c =
-    let ran = c .before .before .before .before .before .before in
-    let formed = ran .before .before .before .before .before in
-    read-whole _ _ _ _ _ _ (formed .before .read-unformed .ensures) (formed .if1 .left) (ran .before .before .before .before .session-in .ensures) (ran .before .before .before .numbers-in .ensures)
-    (ran .before .before .result-in .ensures) (ran .read .ensures) (c .before .before .answered .ensures)
+returns-2 c = search (needs, read-whole)
 
 pub desk-read-spec : {M : Type 1} → statement M
 desk-read-spec =
@@ -56,7 +52,7 @@ desk-read-spec =
     numbers-in-requires
     result-in-requires
     read-requires
-    answered-requires
+    put-outcome-requires
     same-length-2
     same-length-3
     returns-2)

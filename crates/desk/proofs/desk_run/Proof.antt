@@ -1,7 +1,7 @@
 -- `desk::desk_run` meets its contract. Assumes nothing.
 use borrow.Author.Needs.{needs}
 use Rattle.operations.proofs.Answers.{all-wiped}
-use Rattle.desk.proofs.Answers.{run-unformed, run-place, run-whole}
+use Rattle.desk.proofs.Answers.{run-unformed, run-whole}
 use Rattle.desk.proofs.desk_run.Statement.{statement}
 use Rattle.desk.proofs.desk_run.Tie as tie
 
@@ -26,8 +26,8 @@ numbers-in-requires c κs = search needs
 run-plainly-requires : tie.Need-run-plainly-requires
 run-plainly-requires c κs = search needs
 
-answered-requires : tie.Need-answered-requires
-answered-requires c κs = search run-place
+put-outcome-requires : tie.Need-put-outcome-requires
+put-outcome-requires c κs = search needs
 
 same-length-2 : tie.Need-same-length-2
 same-length-2 c = search needs
@@ -36,11 +36,7 @@ same-length-3 : tie.Need-same-length-3
 same-length-3 c = search needs
 
 returns-2 : tie.Need-returns-2
-returns-2 c =
-    let ran = c .before .before .before .before .before .before in
-    let formed = ran .before .before .before .before in
-    run-whole _ _ _ _ _ _ (formed .before .run-unformed .ensures) (formed .if1 .left) (ran .before .before .before .inputs-in .ensures) (ran .before .before .numbers-in .ensures) (ran .run-plainly .ensures)
-    (c .before .before .answered .ensures)
+returns-2 c = search (needs, run-whole)
 
 pub desk-run-spec : {M : Type 1} → statement M
 desk-run-spec =
@@ -53,7 +49,7 @@ desk-run-spec =
     inputs-in-requires
     numbers-in-requires
     run-plainly-requires
-    answered-requires
+    put-outcome-requires
     same-length-2
     same-length-3
     returns-2)
