@@ -1,6 +1,6 @@
 //! Compares the desk's exports and the printing program with the second evaluator, byte for byte, and the lines of the
-//! library's examples with those wanted. `limits` with the name of a group makes the trials at the limits of that group
-//! alone. `figures` takes times, and tries an
+//! library's examples with those wanted. `faults` tries whether faults in the second evaluator are noticed by the trials at
+//! the limits; `limits` with the name of a group makes those of the group alone. `figures` takes times, and tries an
 //! evaluation in 1 MiB of stack; `bench`, `speed` and `stack` with a number of KiB are its parts.
 
 mod bench;
@@ -9,6 +9,7 @@ mod compare;
 mod desk;
 mod evaluations;
 mod examples;
+mod faults;
 mod form_trials;
 mod limits;
 mod made;
@@ -38,6 +39,7 @@ fn main() {
         ["bench"] => return bench::run(),
         ["speed"] => return speed::run(),
         ["stack", kibibytes] => return stack::run(kibibytes.parse().expect("a number")),
+        ["faults"] => return faults::run(),
         ["limits", group] => return tell(&limits::group(group).expect("a group of limits")),
         _ => {}
     }

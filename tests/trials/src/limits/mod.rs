@@ -1,5 +1,5 @@
 //! Both sides of every limit in document 01, and every order of two tests or steps that its text fixes. A line over a
-//! trial has the sentence that it tries.
+//! trial has the sentence that it tries. `tests/second/faults` has for each group the faults that it must notice.
 
 mod acceptances;
 mod depths;
@@ -43,6 +43,10 @@ pub fn all(tally: &mut Tally) {
     for (_, group) in GROUPS {
         group(tally);
     }
+}
+
+pub fn groups() -> impl Iterator<Item = &'static str> {
+    GROUPS.into_iter().map(|(name, _)| name)
 }
 
 /// Nothing where there is no such group.
