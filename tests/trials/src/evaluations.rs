@@ -1,8 +1,10 @@
 //! Evaluations: the desk and the second evaluator go through the same sessions side by side.
 
-use crate::compare::{compare_fits, result_of, FALSE};
+use crate::choices::{called_asserted, chain, halves, procedures};
+use crate::compare::{compare_fits, result_of};
 use crate::desk::{self, answer_bytes, UNANSWERED};
-use crate::rules::{chained_targets, guarded_update, self_application};
+use crate::made::{FALSE, FREE_TRUTH};
+use crate::rules::{guarded_update, self_application};
 use crate::session_trials::readings;
 use crate::tally::Tally;
 use second::dice::{record, rule, Dice};
@@ -19,20 +21,32 @@ pub struct Pair {
 impl Pair {
     /// Nothing where the opening is refused.
     pub fn open(inputs: &[Input; 16], bytes: usize) -> Option<Pair> {
-        let mut theirs = vec![0; bytes];
-        let session = open(inputs, &mut theirs).ok()?;
-        let form = desk::session_bytes(&session);
-        let ours = theirs.clone();
-        Some(Pair {
-            form,
-            ours,
+        let mut table = vec![0; bytes];
+        let session = open(inputs, &mut table).ok()?;
+        Some(Pair::of(session, table))
+    }
+
+    pub fn of(session: Session, table: Vec<u8>) -> Pair {
+        Pair {
+            form: desk::session_bytes(&session),
+            ours: table.clone(),
             session,
-            theirs,
-        })
+            theirs: table,
+        }
+    }
+
+    /// The second evaluator's answer.
+    pub fn evaluate(&mut self, tally: &mut Tally, bytes: &[u8], allowance: u16) -> Answer {
+        self.both(tally, bytes, allowance).1
+    }
+
+    /// The desk's refusal or 0.
+    pub fn refusal(&mut self, tally: &mut Tally, bytes: &[u8], allowance: u16) -> u8 {
+        self.both(tally, bytes, allowance).0
     }
 
     /// The answer, the session and every byte of the table are the same afterwards.
-    pub fn evaluate(&mut self, tally: &mut Tally, bytes: &[u8], allowance: u16) -> Answer {
+    fn both(&mut self, tally: &mut Tally, bytes: &[u8], allowance: u16) -> (u8, Answer) {
         let mut given = UNANSWERED;
         let refusal = desk::evaluate(&mut self.form, &mut self.ours, bytes, allowance, &mut given);
         let answer = evaluate(&mut self.session, &mut self.theirs, bytes, allowance);
@@ -42,7 +56,7 @@ impl Pair {
         let form = desk::session_bytes(&self.session);
         tally.same_bytes("evaluate's session", &self.form, &form);
         tally.same_bytes("evaluate's table", &self.ours, &self.theirs);
-        answer
+        (refusal, answer)
     }
 }
 
@@ -84,59 +98,20 @@ fn datum_and_let(tally: &mut Tally) {
     }
 }
 
-/// A rule that calls a choice of so many procedures, by tests of the free words at places 1 to 15.
-fn many_targets(targets: u16) -> Vec<u8> {
-    let mut records = vec![record(6, 0, 0, 0, 0)];
-    let root = choices(&mut records, 0, targets);
-    let call = records.len() as u16;
-    records.push(record(4, 0, 0, 1, 0));
-    records[0] = record(6, 0, root, call, 0);
-    rule(&records)
-}
-
-/// A balanced tree of ifs; each test is bound by a let, so that it is a new truth.
-fn choices(records: &mut Vec<second::Record>, bindings: u16, targets: u16) -> u16 {
-    let number = records.len() as u16;
-    if targets == 1 {
-        records.push(record(3, 0, number + 1, 0, 0));
-        records.push(record(1, 2, number, 0, 0));
-        return number;
-    }
-    records.push(record(6, 0, number + 1, 0, 0));
-    records.push(record(5, 11, bindings, bindings + 1, 0));
-    let branch = records.len() as u16;
-    records.push(record(7, 0, 0, 0, 0));
-    let then = choices(records, bindings + 1, targets / 2);
-    let other = choices(records, bindings + 1, targets - targets / 2);
-    records[usize::from(branch)] = record(7, 0, 0, then, other);
-    records[usize::from(number)] = record(6, 0, number + 1, branch, 0);
-    number
-}
-
-/// Calls of 1 to 70 targets, in tables that fill at every place of the walk, the bindings and the merge.
+/// Calls of up to 66 targets, in tables that fill at every place of the choice, the walk, the bindings and the merge.
 fn leaves(tally: &mut Tally) {
-    let truths = [Input { kind: 2, value: 0 }; 16];
-    let words = [Input { kind: 3, value: 0 }; 16];
-    for targets in (1..=10).chain([31, 32, 33, 63, 64, 65, 66, 70]) {
-        let cases = [
-            (
-                truths,
-                chained_targets(targets, 1, |n| record(1, 2, n, 0, 0)),
-            ),
-            (words, many_targets(targets)),
-        ];
-        for (inputs, bytes) in cases {
-            let mut whole = Pair::open(&inputs, 65_536).expect("a good opening");
-            whole.evaluate(tally, &bytes, 256);
-            let opened = 34;
-            let needed = usize::from(whole.session.count).max(opened + 400);
-            for terms in (opened..=needed + 1).step_by(1 + needed / 700) {
-                let mut pair = Pair::open(&inputs, 8 * terms).expect("a good opening");
-                pair.evaluate(tally, &bytes, 256);
+    let open = |records: usize| Pair::open(&[FREE_TRUTH; 16], 8 * records).expect("a good opening");
+    for targets in (1..=8).chain([32, 63, 64, 65, 66]) {
+        let leaves = procedures(targets);
+        for chosen in [halves(&leaves), chain(leaves)] {
+            let rule = called_asserted(chosen);
+            for records in 34.. {
+                if open(records).evaluate(tally, &rule, 256) != Answer::Refused(11) {
+                    break;
+                }
             }
             for allowance in 1..=20 {
-                let mut pair = Pair::open(&inputs, 65_536).expect("a good opening");
-                pair.evaluate(tally, &bytes, allowance);
+                open(8_192).evaluate(tally, &rule, allowance);
             }
         }
     }

@@ -2,7 +2,7 @@
 
 use crate::compare::compare_open;
 use crate::tally::Tally;
-use crate::{evaluations, form_trials, rule_trials, run_trials, session_trials, vectors};
+use crate::{evaluations, form_trials, limits, rule_trials, run_trials, session_trials, vectors};
 use second::dice::Dice;
 use second::Input;
 
@@ -15,6 +15,7 @@ pub fn all() -> Tally {
     form_trials::all(&mut tally);
     evaluations::all(&mut tally);
     vectors::all(&mut tally);
+    limits::all(&mut tally);
     for (operation, answers) in ANSWERS {
         for &answer in answers {
             tally.require(operation, answer);
