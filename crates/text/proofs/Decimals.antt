@@ -13,8 +13,8 @@ use borrow.Author.Tests.{lt-ltb, le-ltb, leb-true, leb-false}
 use Rattle.notation.specs.Notation.{with, if_below_then_else_}
 use Rattle.io.specs.Digits.{glyph, digits, Fewest}
 use Rattle.io.specs.Counts.{Counts}
-use Rattle.print.specs.Appends.{numberBytes, Spells, Appends}
-use Rattle.print.specs.Text.{digit, decimalWithin, decimalOf}
+use Rattle.text.specs.Appends.{numberBytes, Spells, Appends}
+use Rattle.text.specs.Text.{digit, decimalWithin, decimalOf}
 
 glyph-digit : (d : ℕ) → d < 10 → glyph d ≡ digit d
 glyph-digit d h = rw (lt-ltb _ _ h)

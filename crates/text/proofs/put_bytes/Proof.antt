@@ -5,9 +5,9 @@ use Prim.Native.Nat.{_-_, _≤_}
 use native.Mathlib.Omega.{arith}
 use lib.ListN.{length}
 use borrow.Author.Needs.{needs}
-use Rattle.print.proofs.Adding.{Copied, none-copied, one-copied, all-copied}
-use Rattle.print.proofs.text.put_bytes.Statement.{statement}
-use Rattle.print.proofs.text.put_bytes.Tie as tie
+use Rattle.text.proofs.Adding.{Copied, none-copied, one-copied, all-copied}
+use Rattle.text.proofs.put_bytes.Statement.{statement}
+use Rattle.text.proofs.put_bytes.Tie as tie
 
 abbrev Inv-loop : tie.InvT-loop
 Inv-loop out₀ at bytes i₀ i-end out i = ((i ≤ i-end) × ((i-end ≡ length bytes) × (length out ≡ length out₀))) × Copied out₀ at bytes out i

@@ -1,20 +1,24 @@
 -- Text added to a buffer: a byte more, and one text after another. Assumes nothing.
-use mathlib.Core.Path.{_≡_, refl}
+use mathlib.Core.Path.{_≡_, refl, sym}
 use mathlib.Core.List.{List, [], _∷_, _++_, append-assoc, append-nil}
 use Prim.Native.Nat.{ℕ, suc, _+_, _*_, _<_, _≤_}
 use native.Mathlib.Nat.{add-zero}
 use native.Mathlib.Numerals.{add-one}
 use native.Mathlib.Omega.{arith}
 use lib.ListN.{length, take, drop, getD, set, drop-of-length-le}
-use lib.Seq.{take-suc, drop-cons, take-suc-set, take-length}
-use Rattle.print.specs.Text.{space, lineFeed, decimalOf, joined, numbersText}
-use Rattle.print.specs.Appends.{numberBytes, Appends}
+use lib.Seq.{length-take-le, take-suc, drop-cons, take-suc-set, take-length}
+use Rattle.text.specs.Text.{space, lineFeed, decimalOf, joined, numbersText}
+use Rattle.text.specs.Appends.{numberBytes, Appends, Writes}
 
 -- one text after another
 pub both-added : {m n : ℕ} {t u s : List ℕ} {at : ℕ} {y : List ℕ} {e : ℕ} {z : List ℕ} {r : ℕ} → Appends m t s at y e → Appends n u y e z r → Appends (m + n) (t ++ u) s at z r
 both-added p q =
     let a = p .low in let b = p .high in let c = q .low in let d = q .high in
     record { is = rw (q .is, p .is, append-assoc); low = omega arith; high = omega arith }
+
+-- a text from the start on, in a buffer that has room for it
+pub written : {m : ℕ} {t s y : List ℕ} {r : ℕ} → m ≤ length y → Appends m t s 0 y r → Writes t y r
+written {y = y} {r} h p = let a = p .high in let b : r ≤ length y = omega arith in record { counts = (b, sym (length-take-le r y b)); is = p .is }
 
 -- The first i of the bytes b stand in y, after the first `at` of s.
 pub record Copied (s : List ℕ) (at : ℕ) (b y : List ℕ) (i : ℕ) : Type 0 where

@@ -1,9 +1,9 @@
 -- `text::spell` meets its contract. Assumes nothing.
 use native.Mathlib.Omega.{arith}
 use borrow.Author.Needs.{needs}
-use Rattle.print.proofs.Decimals.{spelled}
-use Rattle.print.proofs.text.spell.Statement.{statement}
-use Rattle.print.proofs.text.spell.Tie as tie
+use Rattle.text.proofs.Decimals.{spelled}
+use Rattle.text.proofs.spell.Statement.{statement}
+use Rattle.text.proofs.spell.Tie as tie
 
 returns : tie.Need-returns
 returns c = let d = c .decimal .ensures in spelled (omega arith) (d .0) (d .1 .0) (d .1 .1)

@@ -1,17 +1,17 @@
 // Text in a lent buffer: each function puts its text at a place and answers the place after it. What they require is
-// room for it.
+// room for it, which the caller knows: it sizes the buffer.
 ghost use mathlib.Core.List.{[], _∷_, _++_};
 ghost use Prim.Native.Nat.{_+_, _*_, _<_, _≤_};
 ghost use lib.ListN.{length};
-ghost use Rattle.print.specs.Text.{decimalOf, numbersText};
-ghost use Rattle.print.specs.Appends.{numberBytes, Spells, Appends};
+ghost use Rattle.text.specs.Text.{decimalOf, numbersText};
+ghost use Rattle.text.specs.Appends.{numberBytes, Spells, Appends};
 
 const SPACE: u8 = 32;
 
 const LINE_FEED: u8 = 10;
 
 // These bytes as they are.
-fn put_bytes(out: &mut [u8], at: usize, bytes: &[u8]) -> usize
+pub fn put_bytes(out: &mut [u8], at: usize, bytes: &[u8]) -> usize
     requires { ⌜ at + length (now bytes) ≤ length (now out) ⌝ }
     ensures { λ r. ⌜ Appends (length (now (bytes .entry))) (now (bytes .entry)) (now (out .entry)) at (now (out .exit)) r ⌝ }
 {
@@ -29,7 +29,7 @@ fn spell(n: u16, digits: &mut [u8; 20]) -> usize
 }
 
 // A number in base ten, and a byte after it.
-fn put_number(out: &mut [u8], at: usize, n: u16, after: u8) -> usize
+pub fn put_number(out: &mut [u8], at: usize, n: u16, after: u8) -> usize
     requires { ⌜ at + numberBytes ≤ length (now out) ⌝ }
     ensures { λ r. ⌜ Appends numberBytes (decimalOf n ++ (after ∷ [])) (now (out .entry)) at (now (out .exit)) r ⌝ }
 {
@@ -41,7 +41,7 @@ fn put_number(out: &mut [u8], at: usize, n: u16, after: u8) -> usize
 }
 
 // One or more numbers, parted by spaces, and a line feed.
-pub(crate) fn put_numbers(out: &mut [u8], at: usize, numbers: &[u16]) -> usize
+pub fn put_numbers(out: &mut [u8], at: usize, numbers: &[u16]) -> usize
     requires { ⌜ (0 < length (now numbers)) × (at + numberBytes * length (now numbers) ≤ length (now out)) ⌝ }
     ensures { λ r. ⌜ Appends (numberBytes * length (now (numbers .entry))) (numbersText (now (numbers .entry))) (now (out .entry)) at (now (out .exit)) r ⌝ }
 {
@@ -54,7 +54,7 @@ pub(crate) fn put_numbers(out: &mut [u8], at: usize, numbers: &[u16]) -> usize
 }
 
 // A line that begins with a word, which has a space after it.
-pub(crate) fn put_line(out: &mut [u8], at: usize, word: &[u8], numbers: &[u16]) -> usize
+pub fn put_line(out: &mut [u8], at: usize, word: &[u8], numbers: &[u16]) -> usize
     requires { ⌜ (0 < length (now numbers)) × (at + (length (now word) + numberBytes * length (now numbers)) ≤ length (now out)) ⌝ }
     ensures { λ r. ⌜ Appends (length (now (word .entry)) + numberBytes * length (now (numbers .entry))) (now (word .entry) ++ numbersText (now (numbers .entry))) (now (out .entry)) at (now (out .exit)) r ⌝ }
 {

@@ -1,9 +1,9 @@
 -- `text::put_number` meets its contract. Assumes nothing.
 use native.Mathlib.Omega.{arith}
 use borrow.Author.Needs.{needs}
-use Rattle.print.proofs.Decimals.{number-added}
-use Rattle.print.proofs.text.put_number.Statement.{statement}
-use Rattle.print.proofs.text.put_number.Tie as tie
+use Rattle.text.proofs.Decimals.{number-added}
+use Rattle.text.proofs.put_number.Statement.{statement}
+use Rattle.text.proofs.put_number.Tie as tie
 
 returns : tie.Need-returns
 returns c = number-added (c .before .before .before .before .before .spell .ensures) (c .before .before .put-bytes .ensures) (omega arith) _

@@ -5,9 +5,9 @@ use Prim.Native.Nat.{_+_, _-_, _≤_}
 use native.Mathlib.Omega.{arith}
 use lib.ListN.{length}
 use borrow.Author.Needs.{needs}
-use Rattle.print.proofs.Adding.{Listed, none-listed, one-listed, all-listed}
-use Rattle.print.proofs.text.put_numbers.Statement.{statement}
-use Rattle.print.proofs.text.put_numbers.Tie as tie
+use Rattle.text.proofs.Adding.{Listed, none-listed, one-listed, all-listed}
+use Rattle.text.proofs.put_numbers.Statement.{statement}
+use Rattle.text.proofs.put_numbers.Tie as tie
 
 abbrev Inv-loop : tie.InvT-loop
 Inv-loop out₀ at numbers last end₀ i₀ out end i = ((i ≤ last) × ((last + 1 ≡ length numbers) × (length out ≡ length out₀))) × Listed out₀ at numbers out end i

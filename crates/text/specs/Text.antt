@@ -1,10 +1,9 @@
--- What the printing program writes, byte by byte: the lines of document 01's "The printed case" as text in ASCII. Assumes nothing.
+-- Text in ASCII: numbers in base ten, and lines of fields. Assumes nothing.
 use Prim.Native.Nat.{ℕ, zero, suc, _+_, _/_, _%_}
 use Prim.Native.Char.{code}
 use Prim.Native.String.{String, [], _∷_}
 use mathlib.Core.List.{List, [], _∷_, _++_, map}
 use Rattle.notation.specs.Notation.{with, if_below_then_else_}
-use Rattle.semantics.specs.Print.{Line, out, halt, refusal, numbers, printedOf}
 
 -- the bytes of a text in ASCII
 abbrev pub ascii : String → List ℕ
@@ -37,19 +36,6 @@ joined [] = lineFeed ∷ []
 joined (f ∷ []) = f ++ (lineFeed ∷ [])
 joined (f ∷ g ∷ fs) = f ++ (space ∷ joined (g ∷ fs))
 
+-- a line of numbers
 unfoldable pub numbersText : List ℕ → List ℕ
 numbersText ns = joined (map decimalOf ns)
-
-unfoldable pub lineText : Line → List ℕ
-lineText (out ns) = joined (ascii "out" ∷ map decimalOf ns)
-lineText (halt ns) = joined (ascii "halt" ∷ map decimalOf ns)
-lineText (refusal k) = joined (ascii "refused" ∷ decimalOf k ∷ [])
-lineText (numbers ns) = numbersText ns
-
-unfoldable pub linesText : List Line → List ℕ
-linesText [] = []
-linesText (l ∷ ls) = lineText l ++ linesText ls
-
--- what is written, of what is read
-unfoldable pub writtenOf : List ℕ → List ℕ
-writtenOf s = linesText (printedOf s)

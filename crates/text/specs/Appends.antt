@@ -1,21 +1,14 @@
 -- What code that adds text to a buffer promises. Assumes nothing.
 use mathlib.Core.Path.{_≡_}
-use Prim.Native.Nat.{ℕ, _+_, _*_, _≤_}
+use Prim.Native.Nat.{ℕ, _+_, _≤_}
 use mathlib.Core.List.{List, _++_}
 use lib.ListN.{take}
-use Rattle.semantics.specs.declared.Answer.{Answer}
-use Rattle.semantics.specs.declared.Answer.the-variants.{Out, Halt, Refused}
-use Rattle.semantics.specs.Numbers.{termLimit}
 use Rattle.io.specs.Counts.{Counts}
-use Rattle.print.specs.Text.{decimalOf}
+use Rattle.text.specs.Text.{decimalOf}
 
 -- the longest number and the byte after it: below 65,536 there are at most five digits
 abbrev pub numberBytes : ℕ
 numberBytes = 6
-
--- the longest line, a term's of six numbers
-abbrev pub lineBytes : ℕ
-lineBytes = 6 * numberBytes
 
 -- The first r bytes of the text are n in base ten.
 pub record Spells (n : ℕ) (text : List ℕ) (r : ℕ) : Type 0 where
@@ -33,9 +26,3 @@ pub record Appends (most : ℕ) (text s : List ℕ) (at : ℕ) (y : List ℕ) (r
 pub record Writes (text y : List ℕ) (r : ℕ) : Type 0 where
   pub counts : Counts r y
   pub is : take r y ≡ text
-
--- An accepted rule leaves a table within its limit; a refused one's is not told.
-abbrev pub Told : Answer → ℕ → Type 0
-Told (Out x v d) n = n ≤ termLimit
-Told (Halt x d) n = n ≤ termLimit
-Told (Refused k) n = Unit {0}
