@@ -5,18 +5,18 @@ use borrow.Author.Needs.{needs}
 use Rattle.print.proofs.put_evaluation.Statement.{statement}
 use Rattle.print.proofs.put_evaluation.Tie as tie
 
-evaluate-requires : tie.Need-evaluate-requires
-evaluate-requires c κs = search needs
+enter-once-requires : tie.Need-enter-once-requires
+enter-once-requires c κs = search needs
 
 put-answer-requires : tie.Need-put-answer-requires
-put-answer-requires c κs = evaluation-told _ _ _ _ (c .before .before .before .before .before .before .before .before .before .pre) (c .before .before .before .before .before .evaluate .ensures)
+put-answer-requires c κs = evaluation-told _ _ _ _ (c .before .before .before .before .before .before .before .before .before .pre) (c .before .before .before .before .before .enter-once .ensures)
 
 same-length : tie.Need-same-length
 same-length c = search needs
 
 returns : tie.Need-returns
-returns c = evaluated-lines _ _ _ (c .before .before .before .before .before .before .evaluate .ensures) (c .put-answer .ensures)
+returns c = evaluated-lines _ _ _ (c .before .before .before .before .before .before .enter-once .ensures) (c .put-answer .ensures)
 
 pub put-evaluation-spec : {M : Type 1} → statement M
 put-evaluation-spec =
-    tie.close (tie.spec evaluate-requires put-answer-requires same-length returns)
+    tie.close (tie.spec enter-once-requires put-answer-requires same-length returns)
