@@ -1,7 +1,7 @@
 //! Evaluations: the desk and the second evaluator go through the same sessions side by side.
 
 use crate::compare::{compare_fits, result_of, FALSE};
-use crate::desk::{self, answer_bytes, UNANSWERED};
+use crate::desk;
 use crate::rules::{chained_targets, guarded_update, self_application};
 use crate::session_trials::readings;
 use crate::tally::Tally;
@@ -33,10 +33,10 @@ impl Pair {
 
     /// The answer, the session and every byte of the table are the same afterwards.
     pub fn evaluate(&mut self, tally: &mut Tally, bytes: &[u8], allowance: u16) -> Answer {
-        let mut given = UNANSWERED;
+        let mut given = desk::UNANSWERED;
         let refusal = desk::evaluate(&mut self.form, &mut self.ours, bytes, allowance, &mut given);
         let answer = evaluate(&mut self.session, &mut self.theirs, bytes, allowance);
-        let (expected, wanted) = answer_bytes(answer);
+        let (expected, wanted) = desk::answer_bytes(answer);
         tally.saw("evaluate", expected);
         tally.same("evaluate", (refusal, given), (expected, wanted));
         let form = desk::session_bytes(&self.session);
@@ -213,7 +213,7 @@ fn reads_as_runs(tally: &mut Tally) {
             let size = dice.below(24) + 1;
             let bytes = dice.rule(size);
             let answer = pair.evaluate(tally, &bytes, 24);
-            let (0, form) = answer_bytes(answer) else {
+            let (0, form) = desk::answer_bytes(answer) else {
                 continue;
             };
             accepted.push((bytes, u16::from_le_bytes([form[8], form[9]])));
