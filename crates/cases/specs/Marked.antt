@@ -2,7 +2,6 @@
 use Prim.Native.Nat.{ℕ}
 use mathlib.Core.List.{List, [], _∷_, _++_}
 use lib.ListN.{replicate}
-use Rattle.operators.specs.Operators.{operateOf}
 use Rattle.semantics.specs.declared.Input.{Input}
 use Rattle.semantics.specs.Numbers.{constantTruth, constantWord, freeTruth, datumRecord, variableRecord, procedureRecord, callRecord, operatorRecord, letRecord, ifRecord, errorRecord, trueDatum, wordDatum, wordTerm, badPlace, depthSpent, mostTable}
 use Rattle.semantics.specs.Print.{Line, out, numbers, printAllowance}

@@ -6,27 +6,28 @@
 //   result     8 bytes: S, T and the value, two bytes each, the halted mark and a zero
 //   answer    10 bytes: S, T, the value (0 of a halt), the halted mark and the depth, two bytes each
 //   reading    4 bytes: 1 a truth, 2 a word, 7 a procedure, 8 an abort or 9 an error, and its number, two bytes each
-// What is not of its form is refused before the operation's own tests: inputs by 2, a session by 3, numbers by 13, a
-// result or an answer's place by 14, a reading's place by 15, or by 16 for a run. A refusal leaves what is lent as it
-// was, but for the work list and the store, which are zero on every return. No public function has a `requires`.
+// A form of another length than its own is refused by 255 before anything else; inputs of another length, and what stands
+// in a form (a pad byte that is not zero, a mark over 1), by the operation's own number in its order of tests: inputs by
+// 2, a session by 3, a result by 14. A refusal leaves what is lent as it was, but for the work list and the store, which
+// are zero on every return. No public function has a `requires`.
 use semantics::numbers;
 ghost use mathlib.Core.Path.{_≡_};
 ghost use Rattle.semantics.specs.Rules.{ruleRefusalOf};
 ghost use Rattle.desk.specs.Exports.{deskOpen, deskFits, deskEvaluate, readUnformed, deskRead, runUnformed, deskRun};
 
-// Opens a session over a table and writes it. Refused by 1, 2 or, where the session has not its length, 3.
+// Opens a session over a table and writes it.
 #[no_mangle]
 pub extern "C" fn desk_open(inputs: &[u8], table: &mut [u8], session: &mut [u8]) -> u8
     ensures { λ r. ⌜ (r, now (table .exit), now (session .exit)) ≡ deskOpen (now (inputs .entry)) (now (table .entry)) (now (session .entry)) ⌝ }
 {
+    if session.len() != forms::SESSION {
+        return forms::WRONG_LENGTH;
+    }
     if opening::bad_table_size(table.len()) {
         return numbers::TABLE_SIZE;
     }
     if forms::inputs_formed(inputs) {} else {
         return numbers::BAD_INPUT;
-    }
-    if session.len() != forms::SESSION {
-        return numbers::MISFIT;
     }
     let o = opening::open(forms::inputs_in(inputs), table);
     if o.refusal != 0 {
@@ -50,6 +51,9 @@ pub extern "C" fn desk_rule_refusal(rule: &[u8]) -> u8
 pub extern "C" fn desk_fits(session: &[u8], table: &[u8]) -> u8
     ensures { λ r. ⌜ r ≡ deskFits (now (session .entry)) (now (table .entry)) ⌝ }
 {
+    if session.len() != forms::SESSION {
+        return forms::WRONG_LENGTH;
+    }
     if forms::session_formed(session) {
         if fitting::fits(forms::session_in(session), table) {
             return 0;
@@ -70,40 +74,46 @@ pub extern "C" fn desk_evaluate(
 ) -> u8
     ensures { λ r. ⌜ (r, now (session .exit), now (table .exit), now (answer .exit)) ≡ deskEvaluate (now (session .entry)) (now (table .entry)) (now (rule .entry)) allowance (now (answer .entry)) ⌝ }
 {
+    if session.len() != forms::SESSION {
+        return forms::WRONG_LENGTH;
+    }
+    if answer.len() != forms::ANSWER {
+        return forms::WRONG_LENGTH;
+    }
     if forms::session_formed(session) {} else {
         return numbers::MISFIT;
     }
-    if answer.len() != forms::ANSWER {
-        return numbers::BAD_RESULT;
-    }
-    let e = sessions::evaluate(forms::session_in(session), table, rule, allowance);
+    let e = entry::enter_once(forms::session_in(session), table, rule, allowance);
     let a = e.answer;
-    let k = forms::put_answer(answer, a);
-    if k != 0 {
-        return k;
+    let refusal = forms::put_answer(answer, a);
+    if refusal != 0 {
+        return refusal;
     }
     let x = e.session;
     forms::put_session(session, x);
     0
 }
 
-// The first of session, numbers, result and reading that is not of its form, as a refusal.
+// The refusal of a form of another length, then of a session that is not of its form; else 0.
 fn read_unformed(session: &[u8], numbers: &[u8], result: &[u8], reading: usize) -> u8
     ensures { λ r. ⌜ r ≡ readUnformed (now (session .entry)) (now (numbers .entry)) (now (result .entry)) reading ⌝ }
 {
-    if forms::session_formed(session) {} else {
-        return numbers::MISFIT;
+    if session.len() != forms::SESSION {
+        return forms::WRONG_LENGTH;
     }
     if numbers.len() != forms::NUMBERS {
-        return numbers::BAD_NUMBER;
+        return forms::WRONG_LENGTH;
     }
-    if forms::result_formed(result) {} else {
-        return numbers::BAD_RESULT;
+    if result.len() != forms::RESULT {
+        return forms::WRONG_LENGTH;
     }
-    if reading == forms::READING {
+    if reading != forms::READING {
+        return forms::WRONG_LENGTH;
+    }
+    if forms::session_formed(session) {
         0
     } else {
-        numbers::WORK_SHORT
+        numbers::MISFIT
     }
 }
 
@@ -134,20 +144,20 @@ pub extern "C" fn desk_read(
     forms::put_outcome(reading, o)
 }
 
-// The first of inputs, numbers and reading that is not of its form, as a refusal.
+// The refusal of a form of another length, then of inputs that are not of their form; else 0.
 fn run_unformed(inputs: &[u8], numbers: &[u8], reading: usize) -> u8
     ensures { λ r. ⌜ r ≡ runUnformed (now (inputs .entry)) (now (numbers .entry)) reading ⌝ }
 {
-    if forms::inputs_formed(inputs) {} else {
-        return numbers::BAD_INPUT;
-    }
     if numbers.len() != forms::NUMBERS {
-        return numbers::BAD_NUMBER;
+        return forms::WRONG_LENGTH;
     }
-    if reading == forms::READING {
+    if reading != forms::READING {
+        return forms::WRONG_LENGTH;
+    }
+    if forms::inputs_formed(inputs) {
         0
     } else {
-        numbers::STORE_FULL
+        numbers::BAD_INPUT
     }
 }
 

@@ -17,7 +17,7 @@ pub put-past : (s : List ℕ) (i v : ℕ) → length s ≤ i → s ≡ set s i v
 put-past s i v h = sym (set-out s i v h)
 
 -- a list of the length of what is stored is that
-sets-whole : (s vs : List ℕ) → length s ≡ length vs → sets s 0 vs ≡ vs
+pub sets-whole : (s vs : List ℕ) → length s ≡ length vs → sets s 0 vs ≡ vs
 sets-whole s vs h = sets-eq vs s 0 (omega arith) ∙ rw (drop-of-length-le s {i = 0 + length vs} (omega arith)) (append-nil vs)
 
 pub put-whole : (s vs : List ℕ) → length s ≡ length vs → {y : List ℕ} → y ≡ sets s 0 vs → y ≡ vs

@@ -3,7 +3,6 @@ use Prim.Native.Nat.{ℕ}
 use mathlib.Core.List.{List, [], _∷_}
 use lib.Seq.{sets}
 use Rattle.notation.specs.Notation.{bit}
-use Rattle.semantics.specs.declared.State.{State}
 use Rattle.semantics.specs.declared.Answer.{Answer}
 use Rattle.semantics.specs.declared.Answer.the-variants.{Out, Halt, Refused}
 use Rattle.semantics.specs.declared.Outcome.{Outcome}

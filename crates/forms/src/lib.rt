@@ -15,7 +15,7 @@ ghost use lib.Seq.{sets};
 ghost use Rattle.notation.specs.Notation.{bit};
 ghost use Rattle.semantics.specs.Records.{pairAt};
 ghost use Rattle.semantics.specs.Print.{inputAt};
-ghost use Rattle.forms.specs.Forms.{inputsIn, inputsZeroed, inputsFormed, numbersIn, markFormed, sessionIn, sessionFormed, resultIn, resultFormed, pairsOf, inputBytes, inputsBytes, sessionBytes};
+ghost use Rattle.forms.specs.Forms.{inputsIn, inputsZeroed, inputsFormed, numbersIn, markFormed, sessionIn, sessionFormed, resultIn, pairsOf, inputBytes, inputsBytes, sessionBytes};
 ghost use Rattle.forms.specs.Answers.{answerValues, outcomeValues, writtenAt};
 
 pub const INPUTS: usize = 64;
@@ -29,6 +29,12 @@ pub const RESULT: usize = 8;
 pub const ANSWER: usize = 10;
 
 pub const READING: usize = 4;
+
+// What the library answers where it is lent a form of another length.
+pub const WRONG_LENGTH: u8 = 255;
+
+// A number that is no term's.
+const NO_TERM: u16 = 65535;
 
 fn pair(low: u8, high: u8) -> u16
     ensures { λ r. ⌜ r ≡ low + 256 * high ⌝ }
@@ -117,22 +123,8 @@ fn mark_formed(s: &[u8], at: u16) -> bool
 pub fn session_formed(s: &[u8]) -> bool
     ensures { λ r. ⌜ r ≡ sessionFormed (now (s .entry)) ⌝ }
 {
-    if s.len() == SESSION {
-        if inputs_zeroed(s) {
-            mark_formed(s, 72)
-        } else {
-            false
-        }
-    } else {
-        false
-    }
-}
-
-pub fn result_formed(s: &[u8]) -> bool
-    ensures { λ r. ⌜ r ≡ resultFormed (now (s .entry)) ⌝ }
-{
-    if s.len() == RESULT {
-        mark_formed(s, 6)
+    if inputs_zeroed(s) {
+        mark_formed(s, 72)
     } else {
         false
     }
@@ -153,9 +145,20 @@ pub fn session_in(s: &[u8]) -> Session
     }
 }
 
+// A broken form is a result that names no term.
 pub fn result_in(s: &[u8]) -> Result
     ensures { λ r. ⌜ r ≡ resultIn (now (s .entry)) ⌝ }
 {
+    if mark_formed(s, 6) {} else {
+        return Result {
+            state: State {
+                assumed: NO_TERM,
+                asserted: NO_TERM,
+            },
+            value: NO_TERM,
+            halted: false,
+        };
+    }
     Result {
         state: State {
             assumed: two(s, 0),

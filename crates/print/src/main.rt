@@ -89,7 +89,7 @@ fn put_evaluation(out: &mut [u8; OUTPUT], session: Session, table: &mut [u8], ru
     requires { ⌜ length (session .inputs) ≡ inputCount ⌝ }
     ensures { λ r. ⌜ Writes (linesText (evaluationLines (now (rule .entry)) session (now (table .entry)))) (now (out .exit)) r ⌝ }
 {
-    let e = sessions::evaluate(session, table, rule, ALLOWANCE);
+    let e = entry::enter_once(session, table, rule, ALLOWANCE);
     let answer = e.answer;
     let after = e.session;
     put_answer(out, answer, table, session.count, after.count)

@@ -2,7 +2,7 @@
 
 use crate::choices::{called_asserted, chain, halves, procedures};
 use crate::compare::{compare_fits, result_of};
-use crate::desk::{self, answer_bytes, UNANSWERED};
+use crate::desk;
 use crate::made::{FALSE, FREE_TRUTH};
 use crate::rules::{guarded_update, self_application};
 use crate::session_trials::readings;
@@ -47,10 +47,10 @@ impl Pair {
 
     /// The answer, the session and every byte of the table are the same afterwards.
     fn both(&mut self, tally: &mut Tally, bytes: &[u8], allowance: u16) -> (u8, Answer) {
-        let mut given = UNANSWERED;
+        let mut given = desk::UNANSWERED;
         let refusal = desk::evaluate(&mut self.form, &mut self.ours, bytes, allowance, &mut given);
         let answer = evaluate(&mut self.session, &mut self.theirs, bytes, allowance);
-        let (expected, wanted) = answer_bytes(answer);
+        let (expected, wanted) = desk::answer_bytes(answer);
         tally.saw("evaluate", expected);
         tally.same("evaluate", (refusal, given), (expected, wanted));
         let form = desk::session_bytes(&self.session);
@@ -69,7 +69,6 @@ pub fn all(tally: &mut Tally) {
     reads_as_runs(tally);
     guarded_updates(tally);
     thousand_rules(tally);
-    forms(tally);
 }
 
 /// P10 and its neighbours: "apply my argument to itself", applied to itself, at every allowance.
@@ -177,7 +176,8 @@ fn random_sessions(tally: &mut Tally) {
     }
 }
 
-/// The desk's reading of the last result is what its plain runs of the accepted rules in turn give.
+/// The desk's reading of the last result, taken from the answer as it stands, is what its plain runs of the accepted
+/// rules in turn give.
 fn reads_as_runs(tally: &mut Tally) {
     let mut dice = Dice(0x5a3e);
     for _ in 0..4_000 {
@@ -188,19 +188,18 @@ fn reads_as_runs(tally: &mut Tally) {
             let size = dice.below(24) + 1;
             let bytes = dice.rule(size);
             let answer = pair.evaluate(tally, &bytes, 24);
-            let (Some(result), (_, form)) = (result_of(answer), answer_bytes(answer)) else {
+            let (0, form) = desk::answer_bytes(answer) else {
                 continue;
             };
             accepted.push((bytes, u16::from_le_bytes([form[8], form[9]])));
             for _ in 0..4 {
                 let numbers = desk::numbers_bytes(&dice.numbers(&inputs));
                 let (mut work, mut reading) = (vec![0; 512], desk::UNREAD);
-                let form = desk::result_bytes(&result);
                 desk::read(
                     &pair.form,
                     &pair.ours,
                     &numbers,
-                    &form,
+                    &form[..8],
                     &mut work,
                     &mut reading,
                 );
@@ -250,29 +249,4 @@ fn thousand_rules(tally: &mut Tally) {
     }
     let answer = pair.evaluate(tally, &bytes, 1);
     tally.same("rule 1,001", answer, Answer::Refused(9));
-}
-
-/// Byte forms of wrong lengths.
-fn forms(tally: &mut Tally) {
-    let pair = Pair::open(&[FALSE; 16], 272).expect("a good opening");
-    let bytes = rule(&[record(1, 1, 0, 0, 0)]);
-    for length in (0..100).filter(|&n| n != 74) {
-        let (mut form, mut table) = (pair.form.clone(), pair.ours.clone());
-        form.resize(length, 0);
-        let before = form.clone();
-        let mut given = UNANSWERED;
-        let refusal = desk::evaluate(&mut form, &mut table, &bytes, 1, &mut given);
-        tally.same("session's length", (refusal, given), (3, UNANSWERED));
-        tally.same_bytes("session's length", &form, &before);
-        tally.same_bytes("session's length", &table, &pair.ours);
-    }
-    for length in (0..20).filter(|&n| n != 10) {
-        let (mut form, mut table) = (pair.form.clone(), pair.ours.clone());
-        let mut given = vec![0xa5; length];
-        let refusal = desk::evaluate(&mut form, &mut table, &bytes, 1, &mut given);
-        tally.same("answer's length", refusal, 14);
-        tally.same("answer's length", given, vec![0xa5; length]);
-        tally.same_bytes("answer's length", &form, &pair.form);
-        tally.same_bytes("answer's length", &table, &pair.ours);
-    }
 }

@@ -19,10 +19,6 @@ returns-2 : tie.Need-returns-2
 unfolding sessionFormed
 returns-2 c = search tests
 
-returns-3 : tie.Need-returns-3
-unfolding sessionFormed
-returns-3 c = search tests
-
 pub session-formed-spec : {M : Type 1} → statement M
 session-formed-spec =
-    tie.close (tie.spec inputs-zeroed-requires mark-formed-requires returns returns-2 returns-3)
+    tie.close (tie.spec inputs-zeroed-requires mark-formed-requires returns returns-2)
