@@ -102,7 +102,7 @@ fn expression(
 {
     let k = x.kind;
     match k {
-        numbers::DATUM_RECORD => expressions::datum(table, count, x.op, x.p, y),
+        numbers::DATUM_RECORD => expressions::datum(table, count, x.op, records::datum_word(x), y),
         numbers::VARIABLE_RECORD => expressions::variable(table, count, x.p, env, y),
         numbers::PROCEDURE_RECORD => expressions::procedure(table, count, i, env, before, y),
         numbers::CALL_RECORD => {

@@ -6,6 +6,7 @@ use semantics::Term;
 use semantics::numbers;
 use states::Standing;
 use terms::Made;
+use words::Word;
 ghost use mathlib.Core.Path.{_≡_};
 ghost use Prim.Native.Nat.{max};
 ghost use Rattle.semantics.specs.Terms.{termsIn};
@@ -89,21 +90,11 @@ pub fn variable(table: &[u8], count: u16, p: u16, env: u16, x: State) -> Out
 }
 
 // A word datum; else a truth, whose op is the number of the term false or true.
-pub fn datum(table: &mut [u8], count: u16, op: u8, w: u16, x: State) -> Out
+pub fn datum(table: &mut [u8], count: u16, op: u8, w: Word, x: State) -> Out
     ensures { λ r. ⌜ Within 0 (datumOf op w x) (now (table .entry)) count (r .refusal) (r .count) (r .used) (r .result) (now (table .exit)) ⌝ }
 {
     if op == numbers::WORD_DATUM {
-        let m = terms::make(
-            table,
-            count,
-            Term {
-                kind: numbers::WORD_TERM,
-                op: 0,
-                a: w,
-                b: 0,
-                c: 0,
-            },
-        );
+        let m = terms::make(table, count, terms::word_term(w));
         return Out {
             refusal: m.refusal,
             count: m.count,

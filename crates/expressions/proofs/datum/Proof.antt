@@ -14,4 +14,4 @@ unfolding datumOf
 returns-2 c = record { gives = search steps depth 12; low = search needs }
 
 pub datum-spec : {M : Type 1} → statement M
-datum-spec = tie.close (tie.spec (λ c κs. search needs) (λ c. search needs) returns returns-2)
+datum-spec = tie.close (tie.spec (λ c κs. search needs) (λ c κs. search needs) (λ c. search needs) returns returns-2)
