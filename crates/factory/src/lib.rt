@@ -311,7 +311,12 @@ pub fn operator(table: &mut [u8], count: u16, op: u8, x: u16, y: u16) -> Made
         }
         let u = terms::term(table, count, y);
         if u.kind == numbers::WORD_TERM {
-            return constant(table, count, op, operators::operate(op, terms::word(t), terms::word(u)));
+            return constant(
+                table,
+                count,
+                op,
+                operators::operate(op, terms::word(t), terms::word(u)),
+            );
         }
         return terms::make(
             table,

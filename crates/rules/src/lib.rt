@@ -122,7 +122,11 @@ fn uses(x: Record) -> u8
         if x.op < WORD_DATUM {
             return 0;
         }
-        return if x.op == WORD_DATUM { words::FIELDS } else { NO_SUCH };
+        return if x.op == WORD_DATUM {
+            words::FIELDS
+        } else {
+            NO_SUCH
+        };
     }
     if k == OPERATOR_RECORD {
         if IS_PROCEDURE_CODE < x.op {
