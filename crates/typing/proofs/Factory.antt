@@ -72,6 +72,14 @@ module _ {n : ℕ} {ts : List Term} where
   unfolding laidOut if_equals_then_else_
   laid-word w = record { is = rw (high-unused w) }
 
+  pub laid-constant : (w : ℕ) → Lies n ts (term truthTerm 0 (truthNumber w) 0 0)
+  unfolding truthNumber laidOut if_equals_then_else_
+  laid-constant w = record { is = go (eqb w 1) }
+    where
+      go : (b : Bool) → ltb (pick b trueNumber falseNumber) 2 && true ≡ true
+      go true = refl
+      go false = refl
+
   pub laid-binding : {v e : ℕ} → Value ts v → Sort bindingTerm ts e → Lies n ts (term bindingTerm 0 v e 0)
   unfolding laidOut if_equals_then_else_
   laid-binding {v} {e} h k = record { is = rw (h .is, binding-named k, or-true (eqb e noBinding)) }
