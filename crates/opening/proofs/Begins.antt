@@ -1,21 +1,19 @@
 -- What an opening leaves: false and true first, then well-formed terms, with input 0's binding. Assumes nothing.
 use mathlib.Core.Path.{_≡_, refl, _∙_}
-use mathlib.Core.Bool.{true, false}
+use mathlib.Core.Bool.{true}
 use mathlib.Core.List.{List, [], _∷_}
 use Prim.Native.Nat.{ℕ}
 use native.Mathlib.Omega.{arith}
 use lib.ListN.{length}
-use Rattle.notation.specs.Notation.{if_then_else_, if_equals_then_else_}
+use Rattle.notation.specs.Notation.{if_equals_then_else_}
 use Rattle.semantics.specs.declared.Term.{Term}
 use Rattle.semantics.specs.declared.Input.{Input}
 use Rattle.semantics.specs.Numbers.{truthTerm, bindingTerm, inputCount, mostTable}
 use Rattle.semantics.specs.Terms.{term, sameOf, findOf, laidOut, wellFormed}
-use Rattle.semantics.specs.Rules.{every}
 use Rattle.semantics.specs.Steps.{settingOf, Got, deeper, _>>=_, makeOf}
-use Rattle.semantics.specs.Opening.{inputTaken, openingOf, opening}
+use Rattle.semantics.specs.Opening.{openingOf, opening}
 use Rattle.terms.specs.Search.{codeSetting}
 use Rattle.typing.proofs.Grown.{Grown, Sort}
-use Rattle.typing.proofs.Formed.{never, by-test}
 use Rattle.opening.specs.Openings.{openFrom, openAll}
 use Rattle.opening.proofs.Order.{same-opening}
 use Rattle.opening.proofs.Room.{Roomy, roomy, input-roomy, from-roomy}

@@ -7,18 +7,17 @@ use Prim.Native.Nat.{ℕ, _+_, _<_, _≤_}
 use native.Mathlib.Omega.{arith}
 use lib.ListN.{length}
 use lib.Dec.{eqb, ltb}
-use borrow.Author.Tests.{ltb-true, lt-ltb}
-use Rattle.notation.specs.Notation.{pick, if_then_else_, if_equals_then_else_}
+use borrow.Author.Tests.{lt-ltb}
+use Rattle.notation.specs.Notation.{pick, if_equals_then_else_}
 use Rattle.semantics.specs.declared.Term.{Term}
 use Rattle.semantics.specs.declared.Input.{Input}
 use Rattle.semantics.specs.Numbers.{constantTruth, constantWord, freeTruth, truthTerm, wordTerm, freeTruthTerm, freeWordTerm, bindingTerm, noBinding, inputCount, mostTable}
 use Rattle.semantics.specs.Terms.{term, wordTermOf, truthNumber, at, findOf, sortOf, laidOut, wellFormed}
-use Rattle.semantics.specs.Rules.{every}
 use Rattle.semantics.specs.Steps.{settingOf, roomOf, Got, gave, Make, deeper, next, _>>=_, give, makeOf}
-use Rattle.semantics.specs.Opening.{inputTaken, inputTerm}
+use Rattle.semantics.specs.Opening.{inputTerm}
 use Rattle.terms.specs.Search.{codeSetting}
 use Rattle.typing.proofs.Grown.{Grown, still, more, grown-on, at-newest, Sort, Value, value-grown, value-of, binding-named}
-use Rattle.typing.proofs.Formed.{never, by-test, There, find-there, find-same}
+use Rattle.typing.proofs.Formed.{There, find-there, find-same}
 use Rattle.typing.proofs.Steps.{Lies}
 use Rattle.typing.proofs.Factory.{there-sort, laid-constant, laid-word, binding-sort}
 use Rattle.opening.specs.Openings.{openFrom, openAll}
