@@ -10,8 +10,8 @@
  * was, except that work list and store are zero on every return. Document 01 has the numbers:
  *
  *    1 table bytes not a multiple of 8, below 272 or above 65,536
- *    2 an input's kind or value; inputs that are not of their form
- *    3 session and table do not fit; a session that is not of its form, or its place of another length than 74
+ *    2 an input's kind or value; inputs that are not of their form, or of another length than 64
+ *    3 session and table do not fit; a session that is not of its form
  *    4 rule bytes none, above 32,768 or not a multiple of 8
  *    5 a kind, op or unused field of a record
  *    6 the tree of records, or a child past the last record
@@ -21,14 +21,18 @@
  *   10 a 65th leaf in one call's walk
  *   11 a new term with the table full
  *   12 the depth is spent
- *   13 a free truth given a number over 1; numbers of another length than 32
- *   14 a result's S, T or value; a result that is not of its form; an answer's place of another length than 10
- *   15 a work list shorter than the count of terms; a reading's place of another length than 4, in desk_read
- *   16 the store is full; a reading's place of another length than 4, in desk_run
+ *   13 a free truth given a number over 1
+ *   14 a result's S, T or value; a result that is not of its form
+ *   15 a work list shorter than the count of terms
+ *   16 the store is full
  *
- * The forms are tested first (in desk_open the table's length before them), each in the order of the arguments, then the
- * operation makes its own tests in their order. crates/forms/specs has the forms, and crates/desk/specs each function's
- * answer and every byte that it leaves, as definitions; the functions are proved equal to them on all arguments.
+ * and one more is the library's own, which comes before all of them:
+ *
+ *  255 a session, numbers, a result, or the place of an answer or a reading, of another length than its form has
+ *
+ * Each function names its numbers below in the order in which they are tested. crates/forms/specs has the forms, and
+ * crates/desk/specs each function's answer and every byte that it leaves, as definitions; the functions are proved equal
+ * to them on all arguments.
  */
 #ifndef DESK_H
 #define DESK_H
@@ -40,7 +44,8 @@
 extern "C" {
 #endif
 
-/* The forms. Numbers of two bytes have the low one first. A byte that is called zero, and a mark over 1, break a form.
+/* The forms. Numbers of two bytes have the low one first. A byte that is called zero and is not, or a mark over 1, breaks
+ * a form.
  *
  * inputs, 64 bytes: input i stands at 4 * i
  *   0  kind: one of enum desk_input
@@ -58,7 +63,7 @@ extern "C" {
  *
  * numbers, 32 bytes: the number for input i stands at 2 * i, two bytes; a constant ignores its own
  *
- * result, 8 bytes: what desk_read reads; of an answer, S, T, the value and the halted mark
+ * result, 8 bytes: what desk_read reads; an answer begins with it
  *   0  S, two bytes
  *   2  T, two bytes
  *   4  value: the number of a term, two bytes; of a halt it is not looked at
@@ -66,11 +71,7 @@ extern "C" {
  *   7  zero
  *
  * answer, 10 bytes: written by desk_evaluate
- *   0  halted mark: 0 or 1
- *   1  zero
- *   2  S, two bytes
- *   4  T, two bytes
- *   6  value: the number of a term, two bytes; 0 of a halt
+ *   0  result, 8 bytes; its value is 0 of a halt
  *   8  depth: the smallest allowance that gives this result, two bytes
  *
  * reading, 4 bytes: written by desk_read and desk_run
@@ -92,6 +93,11 @@ enum {
     DESK_MOST_ALLOWANCE = 256
 };
 
+/* The answer to a form of another length: no number of document 01. */
+enum {
+    DESK_WRONG_LENGTH = 255
+};
+
 /* An input's kind. The value is 0 or 1 of a constant truth, any of a constant word, and 0 of the free ones. */
 enum desk_input {
     DESK_CONSTANT_TRUTH = 0,
@@ -100,31 +106,31 @@ enum desk_input {
     DESK_FREE_WORD = 3
 };
 
-/* What a reading's first byte says. */
+/* What a reading's first byte says: the kind of the term that stands for a value, or of the record that stopped. */
 enum desk_reading {
-    DESK_TRUTH = 0,
-    DESK_WORD = 1,
-    DESK_PROCEDURE = 2,
-    DESK_ABORT = 3,
-    DESK_ERROR = 4
+    DESK_TRUTH = 1,
+    DESK_WORD = 2,
+    DESK_PROCEDURE = 7,
+    DESK_ABORT = 8,
+    DESK_ERROR = 9
 };
 
 /* Opens a session: the table then holds the terms of the inputs and zeros, and the session is written.
- * Answers 0, 1, 2 or, for a session's place of another length than 74, 3. */
+ * Answers 255, 1 or 2, or 0. */
 uint8_t desk_open(const uint8_t *inputs, size_t inputs_len,
                   uint8_t *table, size_t table_len,
                   uint8_t *session, size_t session_len);
 
-/* Tests a rule alone. Answers 0, 4, 5, 6 or 7. */
+/* Tests a rule alone. Answers 4, 5, 6 or 7, or 0. */
 uint8_t desk_rule_refusal(const uint8_t *rule, size_t rule_len);
 
-/* Tests whether a session and a table fit. Answers 0 or 3; 3 too for a session that is not of its form. */
+/* Tests whether a session and a table fit. Answers 255 or 3, or 0. */
 uint8_t desk_fits(const uint8_t *session, size_t session_len,
                   const uint8_t *table, size_t table_len);
 
 /* Evaluates a rule in a session over its table: session and table are advanced, and the answer is written.
- * Answers 0, 3 (of the form, before all others), 14 (for an answer's place of another length than 10), 3, 4 to 9, then
- * whichever of 10, 11 and 12 comes first. A halted session answers 0 with the same halt, and the rule counts. */
+ * Answers 255, 3 to 9, then whichever of 10, 11 and 12 comes first, or 0. A halted session answers 0 with the same halt,
+ * and the rule counts. */
 uint8_t desk_evaluate(uint8_t *session, size_t session_len,
                       uint8_t *table, size_t table_len,
                       const uint8_t *rule, size_t rule_len,
@@ -132,7 +138,7 @@ uint8_t desk_evaluate(uint8_t *session, size_t session_len,
                       uint8_t *answer, size_t answer_len);
 
 /* Reads a result under sixteen numbers. The work list has a place for each term: as many as the session's count, or
- * more. Answers 0; by the forms 3, 13, 14, or 15 for a reading's place of another length than 4; then 3, 13, 14 or 15. */
+ * more. Answers 255, 3, 13, 14 or 15, or 0. */
 uint8_t desk_read(const uint8_t *session, size_t session_len,
                   const uint8_t *table, size_t table_len,
                   const uint8_t *numbers, size_t numbers_len,
@@ -142,8 +148,7 @@ uint8_t desk_read(const uint8_t *session, size_t session_len,
 
 /* Runs one rule plainly, with no table and no session, under sixteen numbers. The store has a place for each whole 8
  * bytes, at most 8,192: 16 for the inputs, and one for each let and each call of a procedure.
- * Answers 0; by the forms 2, 13, or 16 for a reading's place of another length than 4; then 2, 13, 4 to 8, then
- * whichever of 16 and 12 comes first. */
+ * Answers 255, 2, 13, 4 to 8, then whichever of 16 and 12 comes first, or 0. */
 uint8_t desk_run(const uint8_t *inputs, size_t inputs_len,
                  const uint8_t *numbers, size_t numbers_len,
                  const uint8_t *rule, size_t rule_len,

@@ -26,7 +26,10 @@ static void accepted(uint8_t refusal)
 
 static void tell(const char *what, unsigned truth, const uint8_t *reading)
 {
-    static const char *const names[] = {"truth", "word", "procedure", "abort", "error"};
+    static const char *const names[] = {
+        [DESK_TRUTH] = "truth", [DESK_WORD] = "word", [DESK_PROCEDURE] = "procedure",
+        [DESK_ABORT] = "abort", [DESK_ERROR] = "error",
+    };
     printf("%s %u: %s", what, truth, names[reading[0]]);
     if (reading[0] <= DESK_PROCEDURE)
         printf(" %u", two(reading + 2));
@@ -40,7 +43,6 @@ int main(void)
     uint8_t inputs[DESK_INPUTS] = {DESK_FREE_TRUTH};
     uint8_t session[DESK_SESSION];
     uint8_t answer[DESK_ANSWER];
-    uint8_t result[DESK_RESULT];
     uint8_t reading[DESK_READING];
     uint8_t store[16 * 8];
     unsigned opened, count, i;
@@ -50,24 +52,20 @@ int main(void)
     opened = two(session + 64);
     accepted(desk_evaluate(session, sizeof session, table, sizeof table, rule, sizeof rule, 100, answer, sizeof answer));
     count = two(session + 64);
-    if (answer[0] == 1)
-        printf("halt %u %u %u\n", two(answer + 2), two(answer + 4), count);
+    if (answer[6] == 1)
+        printf("halt %u %u %u\n", two(answer), two(answer + 2), count);
     else
-        printf("out %u %u %u %u\n", two(answer + 2), two(answer + 4), two(answer + 6), count);
+        printf("out %u %u %u %u\n", two(answer), two(answer + 2), two(answer + 4), count);
     for (i = opened; i < count; i++) {
         const uint8_t *term = table + 8 * i;
         printf("%u %u %u %u %u %u\n", i, term[0], term[1], two(term + 2), two(term + 4), two(term + 6));
     }
 
-    /* a result is the answer's S, T and value, its halted mark and a zero */
-    for (i = 0; i < 6; i++)
-        result[i] = answer[2 + i];
-    result[6] = answer[0];
-    result[7] = 0;
+    /* the answer begins with its result */
     for (truth = 1; truth >= 0; truth--) {
         uint8_t numbers[DESK_NUMBERS] = {0};
         numbers[0] = (uint8_t)truth;
-        accepted(desk_read(session, sizeof session, table, sizeof table, numbers, sizeof numbers, result, sizeof result,
+        accepted(desk_read(session, sizeof session, table, sizeof table, numbers, sizeof numbers, answer, DESK_RESULT,
                            work, count, reading, sizeof reading));
         tell("read", (unsigned)truth, reading);
         accepted(desk_run(inputs, sizeof inputs, numbers, sizeof numbers, rule, sizeof rule,

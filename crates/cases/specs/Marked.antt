@@ -2,7 +2,6 @@
 use Prim.Native.Nat.{ℕ}
 use mathlib.Core.List.{List, [], _∷_, _++_}
 use lib.ListN.{replicate}
-use Rattle.operators.specs.Operators.{operateOf}
 use Rattle.semantics.specs.declared.Input.{Input}
 use Rattle.semantics.specs.Numbers.{constantTruth, constantWord, freeTruth, datumRecord, variableRecord, procedureRecord, callRecord, operatorRecord, letRecord, ifRecord, errorRecord, trueDatum, wordDatum, wordTerm, badPlace, depthSpent, mostTable}
 use Rattle.semantics.specs.Print.{Line, out, numbers, printAllowance}
@@ -49,14 +48,14 @@ operationOnOne op x = desk (input constantWord x ∷ falses 15) 1024 (call (byte
 abbrev pub callOfThree : History
 callOfThree = desk (input constantWord 3 ∷ falses 15) 1024 (call (bytes callRecord 0 0 0 0 []) 1 ∷ [])
 
--- P1 to P10. A value is read as 0, its kind and its number, an error as 0 and 9; an answer is 0 and S, T, the value if there is one, and the depth;
+-- P1 to P10. A value is read as 0, its kind and its number, an error as 0, 9 and 0; an answer is 0 and S, T, the value, the halted mark and the depth;
 -- a refusal is its number.
 unfoldable pub marked : List Case
 marked =
     -- P1: the printed case reads as 7 under true
     case (reading printedDesk (firstNumber 1)) (0 ∷ wordTerm ∷ 7 ∷ [])
     -- P2: as error under false
-    ∷ case (reading printedDesk (firstNumber 0)) (0 ∷ errorRecord ∷ [])
+    ∷ case (reading printedDesk (firstNumber 0)) (0 ∷ errorRecord ∷ 0 ∷ [])
     -- P3: 65,535 + 1 is 0
     ∷ case (reading (operation 1 65535 1) (firstNumber 0)) (0 ∷ wordTerm ∷ 0 ∷ [])
     -- P4: leading zeros of 0 is 16
@@ -64,15 +63,15 @@ marked =
     -- P5: 1 shifted left by 16 is 1
     ∷ case (reading (operation 7 1 16) (firstNumber 0)) (0 ∷ wordTerm ∷ 1 ∷ [])
     -- P6: a datum at allowance 1 is accepted
-    ∷ case (answer plainDesk (call (bytes datumRecord trueDatum 0 0 0 []) 1)) (0 ∷ 1 ∷ 1 ∷ 1 ∷ 1 ∷ [])
+    ∷ case (answer plainDesk (call (bytes datumRecord trueDatum 0 0 0 []) 1)) (0 ∷ 1 ∷ 1 ∷ 1 ∷ 0 ∷ 1 ∷ [])
     -- P7: a let at 1 is refused, 12
     ∷ case (answer plainDesk (call (bytes letRecord 0 1 2 0 (bytes datumRecord 0 0 0 0 (bytes datumRecord 0 0 0 0 []))) 1)) (depthSpent ∷ [])
     -- P8: at the root place 15 is in scope, 16 is not
-    ∷ case (answer plainDesk (call (bytes variableRecord 0 15 0 0 []) 1)) (0 ∷ 1 ∷ 1 ∷ 0 ∷ 1 ∷ [])
+    ∷ case (answer plainDesk (call (bytes variableRecord 0 15 0 0 []) 1)) (0 ∷ 1 ∷ 1 ∷ 0 ∷ 0 ∷ 1 ∷ [])
     ∷ case (answer plainDesk (call (bytes variableRecord 0 16 0 0 []) 1)) (badPlace ∷ [])
     -- P9: calling word 3 halts as error
-    ∷ case (answer (desk (input constantWord 3 ∷ falses 15) 1024 []) (call (bytes callRecord 0 0 0 0 []) 1)) (0 ∷ 1 ∷ 0 ∷ 1 ∷ [])
-    ∷ case (reading callOfThree (firstNumber 0)) (0 ∷ errorRecord ∷ [])
+    ∷ case (answer (desk (input constantWord 3 ∷ falses 15) 1024 []) (call (bytes callRecord 0 0 0 0 []) 1)) (0 ∷ 1 ∷ 0 ∷ 0 ∷ 1 ∷ 1 ∷ [])
+    ∷ case (reading callOfThree (firstNumber 0)) (0 ∷ errorRecord ∷ 0 ∷ [])
     -- P10: refused 12 at 256
     ∷ case (answer plainDesk (call selfApplication 256)) (depthSpent ∷ [])
     ∷ []

@@ -1,18 +1,15 @@
 -- A table of cases: what the definitions give, and what is wanted, as numbers. Assumes nothing.
-use Prim.Native.Nat.{ℕ, zero, suc, _/_, _%_}
+use Prim.Native.Nat.{ℕ, _/_, _%_}
 use mathlib.Core.Bool.{Bool, true, false, _&&_}
-use mathlib.Core.List.{List, [], _∷_, _++_}
+use mathlib.Core.List.{List, [], _∷_}
 use lib.Dec.{eqb}
-use lib.ListN.{replicate, length}
+use lib.ListN.{replicate}
 use Rattle.semantics.specs.declared.Input.{Input}
-use Rattle.semantics.specs.declared.Opened.{Opened}
-use Rattle.semantics.specs.declared.Session.{Session}
-use Rattle.semantics.specs.declared.Evaluated.{Evaluated}
-use Rattle.semantics.specs.Answers.{answerValues, outcomeValues}
 use Rattle.semantics.specs.Opening.{openOf}
 use Rattle.semantics.specs.Evaluate.{evaluateOf}
 use Rattle.semantics.specs.Reading.{readOf}
-use Rattle.semantics.specs.History.{Call, History, begun, called, calledAll}
+use Rattle.semantics.specs.History.{Call, History, begun, calledAll}
+use Rattle.forms.specs.Answers.{answerValues, outcomeValues}
 
 pub record Case : Type 0 where
   pub given : List ℕ

@@ -1,30 +1,28 @@
 -- Each way out of an export, in the order of its tests. Assumes nothing.
-use mathlib.Core.Path.{_≡_, refl, sym, _∙_}
+use mathlib.Core.Path.{_≡_, sym, _∙_}
 use mathlib.Core.Bool.{Bool, true, false}
 use mathlib.Core.List.{List}
-use Prim.Native.Nat.{ℕ, _<_}
-use native.Mathlib.Omega.{arith}
+use Prim.Native.Nat.{ℕ}
 use lib.Dec.{eqb}
 use lib.ListN.{length, replicate}
 use lib.Seq.{sets}
-use borrow.Author.Tests.{eq-eqb, ne-eqb, eqb-true}
+use borrow.Author.Tests.{eq-eqb, ne-eqb}
 use Rattle.notation.specs.Notation.{with, if_then_else_, if_equals_then_else_, unless_then_else_}
 use Rattle.semantics.specs.declared.Input.{Input}
 use Rattle.semantics.specs.declared.Result.{Result}
 use Rattle.semantics.specs.declared.Session.{Session}
 use Rattle.semantics.specs.declared.Opened.{Opened}
-use Rattle.semantics.specs.declared.Answer.{Answer}
 use Rattle.semantics.specs.declared.Evaluated.{Evaluated}
 use Rattle.semantics.specs.declared.Outcome.{Outcome}
-use Rattle.semantics.specs.Numbers.{tableSize, badInput, misfit, badResult}
+use Rattle.semantics.specs.Numbers.{tableSize, badInput, misfit}
 use Rattle.semantics.specs.Opening.{badTableSize, openOf}
 use Rattle.semantics.specs.Fits.{fitsOf}
 use Rattle.semantics.specs.Evaluate.{evaluateOf}
 use Rattle.semantics.specs.Reading.{readOf}
 use Rattle.semantics.specs.PlainRun.{runPlainlyOf}
-use Rattle.rules.proofs.Follow.{and-both}
-use Rattle.forms.specs.Forms.{inputsIn, inputsFormed, numbersIn, sessionIn, sessionFormed, resultIn, sessionBytes}
-use Rattle.desk.specs.Exports.{deskOpen, deskFits, evaluatedForm, deskEvaluate, outcomeForm, outcomeForms, readUnformed, deskRead, runUnformed, deskRun}
+use Rattle.forms.specs.Forms.{wrongLength, inputsIn, inputsFormed, numbersIn, sessionIn, sessionFormed, resultIn, sessionBytes}
+use Rattle.forms.specs.Answers.{answerValues, outcomeValues, writtenAt}
+use Rattle.desk.specs.Exports.{deskOpen, deskFits, evaluatedForm, deskEvaluate, outcomeForm, readUnformed, deskRead, runUnformed, deskRun}
 use Rattle.forms.proofs.Written.{put-whole}
 
 -- ---- a length that is tested
@@ -37,84 +35,86 @@ module _ {A : Type 0} (x y : A) {z : A} (i j : ℕ) where
   unfolding unless_then_else_
   long-not h g = rw (ne-eqb i j h) g
 
--- a test that does not refuse
-passed : (b : Bool) (k y : ℕ) → 0 < k → (unless b then k else y) ≡ 0 → (b ≡ true) × (y ≡ 0)
-unfolding unless_then_else_
-passed true k y h e = (refl, e)
-passed false k y h e = absurd (omega arith)
-
 -- ---- opening
-module _ (inputs table session : List ℕ) {b : Bool} (eb : b ≡ badTableSize (length table)) where
-  pub open-size : b ≡ true → (tableSize, table, session) ≡ deskOpen inputs table session
-  unfolding deskOpen if_then_else_
-  open-size h = rw (← eb, h)
+module _ (inputs table session : List ℕ) where
+  pub open-length : (length session ≡ 74 → ⊥) → (wrongLength, table, session) ≡ deskOpen inputs table session
+  unfolding deskOpen unless_then_else_
+  open-length n = rw (ne-eqb (length session) 74 n)
 
-  module _ (h : b ≡ false) {d : Bool} (ed : d ≡ inputsFormed inputs) where
-    pub open-inputs : d ≡ false → (badInput, table, session) ≡ deskOpen inputs table session
+  module _ (l : length session ≡ 74) {b : Bool} (eb : b ≡ badTableSize (length table)) where
+    pub open-size : b ≡ true → (tableSize, table, session) ≡ deskOpen inputs table session
     unfolding deskOpen if_then_else_ unless_then_else_
-    open-inputs k = rw (← eb, h, ← ed, k)
+    open-size h = rw (eq-eqb (length session) 74 l, ← eb, h)
 
-    module _ (k : d ≡ true) where
-      pub open-place : (length session ≡ 74 → ⊥) → (misfit, table, session) ≡ deskOpen inputs table session
+    module _ (h : b ≡ false) {d : Bool} (ed : d ≡ inputsFormed inputs) where
+      pub open-inputs : d ≡ false → (badInput, table, session) ≡ deskOpen inputs table session
       unfolding deskOpen if_then_else_ unless_then_else_
-      open-place n = rw (← eb, h, ← ed, k, ne-eqb (length session) 74 n)
+      open-inputs k = rw (eq-eqb (length session) 74 l, ← eb, h, ← ed, k)
 
-      module _ (l : length session ≡ 74) {xs : List Input} (ex : xs ≡ inputsIn inputs) {o : Opened} {t : List ℕ} (eo : (o, t) ≡ openOf xs table) where
+      module _ (k : d ≡ true) {xs : List Input} (ex : xs ≡ inputsIn inputs) {o : Opened} {t : List ℕ} (eo : (o, t) ≡ openOf xs table) where
         pub open-refused : (o .refusal ≡ 0 → ⊥) → (o .refusal, t, session) ≡ deskOpen inputs table session
         unfolding deskOpen if_then_else_ unless_then_else_ if_equals_then_else_
-        open-refused n = rw (← eb, h, ← ed, k, eq-eqb (length session) 74 l, ← ex, ← eo, ne-eqb (o .refusal) 0 n)
+        open-refused n = rw (eq-eqb (length session) 74 l, ← eb, h, ← ed, k, ← ex, ← eo, ne-eqb (o .refusal) 0 n)
 
         pub open-whole : o .refusal ≡ 0 → length (sessionBytes (o .session)) ≡ 74 → {y : List ℕ} → y ≡ sets session 0 (sessionBytes (o .session)) → (0, t, y) ≡ deskOpen inputs table session
         unfolding deskOpen if_then_else_ unless_then_else_ if_equals_then_else_
         open-whole n m ey =
-            rw (← eb, h, ← ed, k, eq-eqb (length session) 74 l, ← ex, ← eo, eq-eqb (o .refusal) 0 n, put-whole session (sessionBytes (o .session)) (l ∙ sym m) ey)
+            rw (eq-eqb (length session) 74 l, ← eb, h, ← ed, k, ← ex, ← eo, eq-eqb (o .refusal) 0 n, put-whole session (sessionBytes (o .session)) (l ∙ sym m) ey)
 
 -- ---- test 3
-module _ (session table : List ℕ) {b : Bool} (eb : b ≡ sessionFormed session) where
-  pub fits-unformed : b ≡ false → misfit ≡ deskFits session table
-  unfolding deskFits if_then_else_
-  fits-unformed h = rw (← eb, h)
+module _ (session table : List ℕ) where
+  pub fits-length : (length session ≡ 74 → ⊥) → wrongLength ≡ deskFits session table
+  unfolding deskFits unless_then_else_
+  fits-length n = rw (ne-eqb (length session) 74 n)
 
-  module _ (h : b ≡ true) {x : Session} (ex : x ≡ sessionIn session) {d : Bool} (ed : d ≡ fitsOf x table) where
-    pub fits-not : d ≡ false → misfit ≡ deskFits session table
-    unfolding deskFits if_then_else_
-    fits-not k = rw (← eb, h, ← ex, ← ed, k)
+  module _ (l : length session ≡ 74) {b : Bool} (eb : b ≡ sessionFormed session) where
+    pub fits-unformed : b ≡ false → misfit ≡ deskFits session table
+    unfolding deskFits if_then_else_ unless_then_else_
+    fits-unformed h = rw (eq-eqb (length session) 74 l, ← eb, h)
 
-    pub fits-so : d ≡ true → 0 ≡ deskFits session table
-    unfolding deskFits if_then_else_
-    fits-so k = rw (← eb, h, ← ex, ← ed, k)
+    module _ (h : b ≡ true) {x : Session} (ex : x ≡ sessionIn session) {d : Bool} (ed : d ≡ fitsOf x table) where
+      pub fits-not : d ≡ false → misfit ≡ deskFits session table
+      unfolding deskFits if_then_else_ unless_then_else_
+      fits-not k = rw (eq-eqb (length session) 74 l, ← eb, h, ← ex, ← ed, k)
+
+      pub fits-so : d ≡ true → 0 ≡ deskFits session table
+      unfolding deskFits if_then_else_ unless_then_else_
+      fits-so k = rw (eq-eqb (length session) 74 l, ← eb, h, ← ex, ← ed, k)
 
 -- ---- evaluating
-module _ (session table rule : List ℕ) (allowance : ℕ) (answer : List ℕ) {b : Bool} (eb : b ≡ sessionFormed session) where
-  pub evaluate-session : b ≡ false → (misfit, session, table, answer) ≡ deskEvaluate session table rule allowance answer
+module _ (session table rule : List ℕ) (allowance : ℕ) (answer : List ℕ) where
+  pub evaluate-length : (length session ≡ 74 → ⊥) → (wrongLength, session, table, answer) ≡ deskEvaluate session table rule allowance answer
   unfolding deskEvaluate unless_then_else_
-  evaluate-session h = rw (← eb, h)
+  evaluate-length n = rw (ne-eqb (length session) 74 n)
 
-  module _ (h : b ≡ true) where
-    pub session-long : length session ≡ 74
-    unfolding sessionFormed
-    session-long = eqb-true (length session) 74 (and-both _ _ (sym eb ∙ h) .0)
-
-    pub evaluate-place : (length answer ≡ 10 → ⊥) → (badResult, session, table, answer) ≡ deskEvaluate session table rule allowance answer
+  module _ (l : length session ≡ 74) where
+    pub evaluate-place : (length answer ≡ 10 → ⊥) → (wrongLength, session, table, answer) ≡ deskEvaluate session table rule allowance answer
     unfolding deskEvaluate unless_then_else_
-    evaluate-place n = rw (← eb, h, ne-eqb (length answer) 10 n)
+    evaluate-place n = rw (eq-eqb (length session) 74 l, ne-eqb (length answer) 10 n)
 
-    module _ (l : length answer ≡ 10) {x : Session} (ex : x ≡ sessionIn session) {e : Evaluated} {t : List ℕ} (ee : (e, t) ≡ evaluateOf rule allowance x table) where
-      pub evaluate-whole : {a : ℕ} {y z : List ℕ} → ((s : List ℕ) → (a, y, s, z) ≡ evaluatedForm (e .answer) (e .session) session s answer)
-          → (a, y, t, z) ≡ deskEvaluate session table rule allowance answer
-      unfolding deskEvaluate unless_then_else_ with
-      evaluate-whole f = rw (← eb, h, eq-eqb (length answer) 10 l, ← ex, ← ee) (f t)
+    module _ (m : length answer ≡ 10) {b : Bool} (eb : b ≡ sessionFormed session) where
+      pub evaluate-session : b ≡ false → (misfit, session, table, answer) ≡ deskEvaluate session table rule allowance answer
+      unfolding deskEvaluate unless_then_else_
+      evaluate-session h = rw (eq-eqb (length session) 74 l, eq-eqb (length answer) 10 m, ← eb, h)
 
--- an accepted rule's answer
-pub accepted-as : {p q : Answer} → p ≡ q → (x : Session) (session answer : List ℕ) {k l : List ℕ} → ((t : List ℕ) → evaluatedForm q x session t answer ≡ (0, k, t, l))
-    → {a : ℕ} {y z : List ℕ} → (a ≡ 0) × (y ≡ k) × (z ≡ l) → (t : List ℕ) → (a, y, t, z) ≡ evaluatedForm p x session t answer
-accepted-as e x session answer f g t = rw (e, f t, g .0, g .1, g .2)
+      module _ (h : b ≡ true) {x : Session} (ex : x ≡ sessionIn session) {e : Evaluated} {t : List ℕ} (ee : (e, t) ≡ evaluateOf rule allowance x table) where
+        evaluate-on : deskEvaluate session table rule allowance answer ≡ evaluatedForm (e, t) session answer
+        unfolding deskEvaluate unless_then_else_
+        evaluate-on = rw (eq-eqb (length session) 74 l, eq-eqb (length answer) 10 m, ← eb, h, ← ex, ← ee)
+
+        module _ {k : ℕ} {z : List ℕ} (ek : (k, z) ≡ writtenAt (answerValues (e .answer)) answer) where
+          pub evaluate-refused : (k ≡ 0 → ⊥) → (k, session, t, z) ≡ deskEvaluate session table rule allowance answer
+          unfolding evaluatedForm with if_equals_then_else_
+          evaluate-refused n = rw (evaluate-on, ← ek, ne-eqb k 0 n)
+
+          pub evaluate-accepted : k ≡ 0 → length (sessionBytes (e .session)) ≡ 74 → {y : List ℕ} → y ≡ sets session 0 (sessionBytes (e .session))
+              → (0, y, t, z) ≡ deskEvaluate session table rule allowance answer
+          unfolding evaluatedForm with if_equals_then_else_
+          evaluate-accepted n i ey = rw (evaluate-on, ← ek, n, put-whole session (sessionBytes (e .session)) (l ∙ sym i) ey)
 
 -- ---- reading and running
-pub told-as : {p q : Outcome} → p ≡ q → (reading : List ℕ) {l : List ℕ} → outcomeForm q reading ≡ (0, l) → {a : ℕ} {y : List ℕ} → (a ≡ 0) × (y ≡ l) → (a, y) ≡ outcomeForm p reading
-told-as e reading f g = rw (e, f, g .0, g .1)
-
-told : (p : Outcome × List ℕ) (reading : List ℕ) {o : Outcome} {y : List ℕ} → (o, y) ≡ p → {a : ℕ} {z : List ℕ} → (a, z) ≡ outcomeForm o reading → (a, y, z) ≡ outcomeForms p reading
+told : (p : Outcome × List ℕ) (reading : List ℕ) {o : Outcome} {y : List ℕ} → (o, y) ≡ p → {a : ℕ} {z : List ℕ} → (a, z) ≡ writtenAt (outcomeValues o) reading → (a, y, z) ≡ outcomeForm p reading
+unfolding outcomeForm with
 told p reading ep ea = rw (← ep, ← ea)
 
 module _ (session table numbers result work reading : List ℕ) {k : ℕ} (ek : k ≡ readUnformed session numbers result (length reading)) where
@@ -123,16 +123,8 @@ module _ (session table numbers result work reading : List ℕ) {k : ℕ} (ek : 
   read-unformed n ey = rw (← ek, ne-eqb k 0 n, ey)
 
   module _ (h : k ≡ 0) where
-    pub read-place : length reading ≡ 4
-    unfolding readUnformed
-    read-place =
-        let s = passed _ _ _ (omega arith) (sym ek ∙ h) in
-        let n = passed _ _ _ (omega arith) (s .1) in
-        let r = passed _ _ _ (omega arith) (n .1) in
-        eqb-true (length reading) 4 (passed _ _ _ (omega arith) (r .1) .0)
-
     module _ {x : Session} (ex : x ≡ sessionIn session) {ns : List ℕ} (en : ns ≡ numbersIn numbers) {r : Result} (er : r ≡ resultIn result) where
-      pub read-whole : {o : Outcome} {y : List ℕ} → (o, y) ≡ readOf x table ns r work → {a : ℕ} {z : List ℕ} → (a, z) ≡ outcomeForm o reading
+      pub read-whole : {o : Outcome} {y : List ℕ} → (o, y) ≡ readOf x table ns r work → {a : ℕ} {z : List ℕ} → (a, z) ≡ writtenAt (outcomeValues o) reading
           → (a, y, z) ≡ deskRead session table numbers result work reading
       unfolding deskRead with if_equals_then_else_
       read-whole eo ea = rw (← ek, eq-eqb k 0 h, ← ex, ← en, ← er) (told _ reading eo ea)
@@ -143,15 +135,8 @@ module _ (inputs numbers rule : List ℕ) (allowance : ℕ) (store reading : Lis
   run-unformed n ey = rw (← ek, ne-eqb k 0 n, ey)
 
   module _ (h : k ≡ 0) where
-    pub run-place : length reading ≡ 4
-    unfolding runUnformed
-    run-place =
-        let i = passed _ _ _ (omega arith) (sym ek ∙ h) in
-        let n = passed _ _ _ (omega arith) (i .1) in
-        eqb-true (length reading) 4 (passed _ _ _ (omega arith) (n .1) .0)
-
     module _ {xs : List Input} (ex : xs ≡ inputsIn inputs) {ns : List ℕ} (en : ns ≡ numbersIn numbers) where
-      pub run-whole : {o : Outcome} {y : List ℕ} → (o, y) ≡ runPlainlyOf xs ns rule allowance store → {a : ℕ} {z : List ℕ} → (a, z) ≡ outcomeForm o reading
+      pub run-whole : {o : Outcome} {y : List ℕ} → (o, y) ≡ runPlainlyOf xs ns rule allowance store → {a : ℕ} {z : List ℕ} → (a, z) ≡ writtenAt (outcomeValues o) reading
           → (a, y, z) ≡ deskRun inputs numbers rule allowance store reading
       unfolding deskRun with if_equals_then_else_
       run-whole eo ea = rw (← ek, eq-eqb k 0 h, ← ex, ← en) (told _ reading eo ea)

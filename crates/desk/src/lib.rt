@@ -4,48 +4,30 @@
 //   session   74 bytes: the inputs, then count, S, T and accepted rules, two bytes each, the halted mark and a zero
 //   numbers   32 bytes: 16 times two bytes
 //   result     8 bytes: S, T and the value, two bytes each, the halted mark and a zero
-//   answer    10 bytes: the halted mark and a zero, then S, T, the value (0 of a halt) and the depth, two bytes each
-//   reading    4 bytes: 0 a truth, 1 a word, 2 a procedure, 3 an abort or 4 an error; a zero; its number, two bytes
-// What is not of its form is refused before the operation's own tests: inputs by 2, a session by 3, numbers by 13, a
-// result or an answer's place by 14, a reading's place by 15, or by 16 for a run. A refusal leaves what is lent as it
-// was, but for the work list and the store, which are zero on every return. No public function has a `requires`.
-use semantics::Answer;
-use semantics::Outcome;
-use semantics::Session;
-use semantics::State;
+//   answer    10 bytes: S, T, the value (0 of a halt), the halted mark and the depth, two bytes each
+//   reading    4 bytes: 1 a truth, 2 a word, 7 a procedure, 8 an abort or 9 an error, and its number, two bytes each
+// A form of another length than its own is refused by 255 before anything else; inputs of another length, and what stands
+// in a form (a pad byte that is not zero, a mark over 1), by the operation's own number in its order of tests: inputs by
+// 2, a session by 3, a result by 14. A refusal leaves what is lent as it was, but for the work list and the store, which
+// are zero on every return. No public function has a `requires`.
 use semantics::numbers;
 ghost use mathlib.Core.Path.{_≡_};
-ghost use mathlib.Core.List.{List};
-ghost use Prim.Native.Nat.{ℕ};
-ghost use lib.ListN.{length};
 ghost use Rattle.semantics.specs.Rules.{ruleRefusalOf};
-ghost use Rattle.forms.specs.Forms.{sessionBytes, answerBytes, readingBytes};
-ghost use Rattle.desk.specs.Exports.{deskOpen, deskFits, evaluatedForm, deskEvaluate, outcomeForm, readUnformed, deskRead, runUnformed, deskRun};
+ghost use Rattle.desk.specs.Exports.{deskOpen, deskFits, deskEvaluate, readUnformed, deskRead, runUnformed, deskRun};
 
-// What a reading's first byte says.
-const A_TRUTH: u8 = 0;
-
-const A_WORD: u8 = 1;
-
-const A_PROCEDURE: u8 = 2;
-
-const AN_ABORT: u8 = 3;
-
-const AN_ERROR: u8 = 4;
-
-// Opens a session over a table and writes it. Refused by 1, 2 or, where the session has not its length, 3.
+// Opens a session over a table and writes it.
 #[no_mangle]
 pub extern "C" fn desk_open(inputs: &[u8], table: &mut [u8], session: &mut [u8]) -> u8
     ensures { λ r. ⌜ (r, now (table .exit), now (session .exit)) ≡ deskOpen (now (inputs .entry)) (now (table .entry)) (now (session .entry)) ⌝ }
 {
+    if session.len() != forms::SESSION {
+        return forms::WRONG_LENGTH;
+    }
     if opening::bad_table_size(table.len()) {
         return numbers::TABLE_SIZE;
     }
     if forms::inputs_formed(inputs) {} else {
         return numbers::BAD_INPUT;
-    }
-    if session.len() != forms::SESSION {
-        return numbers::MISFIT;
     }
     let o = opening::open(forms::inputs_in(inputs), table);
     if o.refusal != 0 {
@@ -69,6 +51,9 @@ pub extern "C" fn desk_rule_refusal(rule: &[u8]) -> u8
 pub extern "C" fn desk_fits(session: &[u8], table: &[u8]) -> u8
     ensures { λ r. ⌜ r ≡ deskFits (now (session .entry)) (now (table .entry)) ⌝ }
 {
+    if session.len() != forms::SESSION {
+        return forms::WRONG_LENGTH;
+    }
     if forms::session_formed(session) {
         if fitting::fits(forms::session_in(session), table) {
             return 0;
@@ -76,40 +61,6 @@ pub extern "C" fn desk_fits(session: &[u8], table: &[u8]) -> u8
         return numbers::MISFIT;
     }
     numbers::MISFIT
-}
-
-// A session and an answer, at their places.
-fn put_evaluated(
-    session: &mut [u8],
-    x: Session,
-    answer: &mut [u8],
-    halted: bool,
-    state: State,
-    value: u16,
-    depth: u16,
-) -> u8
-    requires { ⌜ (length (now session) ≡ 74) × (length (now answer) ≡ 10) ⌝ }
-    ensures { λ r. ⌜ (r ≡ 0) × (now (session .exit) ≡ sessionBytes x) × (now (answer .exit) ≡ answerBytes halted state value depth) ⌝ }
-{
-    forms::put_session(session, x);
-    forms::put_answer(answer, halted, state, value, depth);
-    0
-}
-
-// What an evaluation answered, and the session then, at their places; or the refusal.
-fn evaluated(a: Answer, x: Session, session: &mut [u8], answer: &mut [u8]) -> u8
-    requires { ⌜ (length (now session) ≡ 74) × (length (now answer) ≡ 10) ⌝ }
-    ensures { λ r. ⌜ ((t : List ℕ) → (r, now (session .exit), t, now (answer .exit)) ≡ evaluatedForm a x (now (session .entry)) t (now (answer .entry))) ⌝ }
-{
-    match a {
-        Answer::Out {
-            state,
-            value,
-            depth,
-        } => put_evaluated(session, x, answer, false, state, value, depth),
-        Answer::Halt { state, depth } => put_evaluated(session, x, answer, true, state, 0, depth),
-        Answer::Refused(k) => k,
-    }
 }
 
 // Evaluates a rule in a session over a table, and advances both.
@@ -123,59 +74,46 @@ pub extern "C" fn desk_evaluate(
 ) -> u8
     ensures { λ r. ⌜ (r, now (session .exit), now (table .exit), now (answer .exit)) ≡ deskEvaluate (now (session .entry)) (now (table .entry)) (now (rule .entry)) allowance (now (answer .entry)) ⌝ }
 {
+    if session.len() != forms::SESSION {
+        return forms::WRONG_LENGTH;
+    }
+    if answer.len() != forms::ANSWER {
+        return forms::WRONG_LENGTH;
+    }
     if forms::session_formed(session) {} else {
         return numbers::MISFIT;
     }
-    if answer.len() != forms::ANSWER {
-        return numbers::BAD_RESULT;
-    }
-    let e = sessions::evaluate(forms::session_in(session), table, rule, allowance);
+    let e = entry::enter_once(forms::session_in(session), table, rule, allowance);
     let a = e.answer;
+    let refusal = forms::put_answer(answer, a);
+    if refusal != 0 {
+        return refusal;
+    }
     let x = e.session;
-    evaluated(a, x, session, answer)
-}
-
-// A reading at its place.
-fn put_reading(reading: &mut [u8], tag: u8, n: u16) -> u8
-    requires { ⌜ length (now reading) ≡ 4 ⌝ }
-    ensures { λ r. ⌜ (r ≡ 0) × (now (reading .exit) ≡ readingBytes tag n) ⌝ }
-{
-    forms::put_tagged(reading, tag, n);
+    forms::put_session(session, x);
     0
 }
 
-// What was read or run, at its place; or the refusal.
-fn answered(o: Outcome, reading: &mut [u8]) -> u8
-    requires { ⌜ length (now reading) ≡ 4 ⌝ }
-    ensures { λ r. ⌜ (r, now (reading .exit)) ≡ outcomeForm o (now (reading .entry)) ⌝ }
-{
-    match o {
-        Outcome::Truth(b) => put_reading(reading, A_TRUTH, forms::bit_of(b) as u16),
-        Outcome::Word(w) => put_reading(reading, A_WORD, w),
-        Outcome::Procedure(i) => put_reading(reading, A_PROCEDURE, i),
-        Outcome::Abort => put_reading(reading, AN_ABORT, 0),
-        Outcome::Error => put_reading(reading, AN_ERROR, 0),
-        Outcome::Refused(k) => k,
-    }
-}
-
-// The first of session, numbers, result and reading that is not of its form, as a refusal.
+// The refusal of a form of another length, then of a session that is not of its form; else 0.
 fn read_unformed(session: &[u8], numbers: &[u8], result: &[u8], reading: usize) -> u8
     ensures { λ r. ⌜ r ≡ readUnformed (now (session .entry)) (now (numbers .entry)) (now (result .entry)) reading ⌝ }
 {
-    if forms::session_formed(session) {} else {
-        return numbers::MISFIT;
+    if session.len() != forms::SESSION {
+        return forms::WRONG_LENGTH;
     }
     if numbers.len() != forms::NUMBERS {
-        return numbers::BAD_NUMBER;
+        return forms::WRONG_LENGTH;
     }
-    if forms::result_formed(result) {} else {
-        return numbers::BAD_RESULT;
+    if result.len() != forms::RESULT {
+        return forms::WRONG_LENGTH;
     }
-    if reading == forms::READING {
+    if reading != forms::READING {
+        return forms::WRONG_LENGTH;
+    }
+    if forms::session_formed(session) {
         0
     } else {
-        numbers::WORK_SHORT
+        numbers::MISFIT
     }
 }
 
@@ -203,23 +141,23 @@ pub extern "C" fn desk_read(
         forms::result_in(result),
         work,
     );
-    answered(o, reading)
+    forms::put_outcome(reading, o)
 }
 
-// The first of inputs, numbers and reading that is not of its form, as a refusal.
+// The refusal of a form of another length, then of inputs that are not of their form; else 0.
 fn run_unformed(inputs: &[u8], numbers: &[u8], reading: usize) -> u8
     ensures { λ r. ⌜ r ≡ runUnformed (now (inputs .entry)) (now (numbers .entry)) reading ⌝ }
 {
-    if forms::inputs_formed(inputs) {} else {
-        return numbers::BAD_INPUT;
-    }
     if numbers.len() != forms::NUMBERS {
-        return numbers::BAD_NUMBER;
+        return forms::WRONG_LENGTH;
     }
-    if reading == forms::READING {
+    if reading != forms::READING {
+        return forms::WRONG_LENGTH;
+    }
+    if forms::inputs_formed(inputs) {
         0
     } else {
-        numbers::STORE_FULL
+        numbers::BAD_INPUT
     }
 }
 
@@ -247,5 +185,5 @@ pub extern "C" fn desk_run(
         allowance,
         store,
     );
-    answered(o, reading)
+    forms::put_outcome(reading, o)
 }

@@ -1,4 +1,5 @@
--- What one export wrote is what the next one reads: the bytes of a session are of their form, and they stand for that session. Assumes nothing.
+-- What one export wrote is what the next one reads: the bytes of a session are of their form, and they stand for that session; an answer begins
+-- with the bytes of its result. Assumes nothing.
 use mathlib.Core.Path.{_≡_, refl, sym, _∙_}
 use mathlib.Core.Bool.{Bool, true, false}
 use mathlib.Core.List.{List, [], _∷_, _++_}
@@ -6,15 +7,19 @@ use Prim.Native.Nat.{ℕ, zero, suc, _+_, _*_, _/_, _%_, _<_, _≤_}
 use native.Mathlib.Omega.{arith}
 use lib.Dec.{eqb, ltb}
 use lib.ListN.{getD, take, length, List·getD-append}
-use lib.Seq.{take-suc, take-all, getD-append-add}
+use lib.Seq.{sets, take-suc, take-all, getD-append-add}
 use borrow.Author.Tests.{eq-eqb}
-use Rattle.notation.specs.Notation.{bit}
+use Rattle.notation.specs.Notation.{bit, pick, if_then_else_}
 use Rattle.semantics.specs.declared.Input.{Input}
+use Rattle.semantics.specs.declared.Result.{Result}
 use Rattle.semantics.specs.declared.Session.{Session}
+use Rattle.semantics.specs.declared.Answer.the-variants.{Out, Halt}
+use Rattle.semantics.specs.Answers.{answerOf, resultIn as resultOf}
 use Rattle.semantics.specs.Print.{inputAt}
 use Rattle.rules.proofs.Follow.{up-make}
-use Rattle.forms.specs.Forms.{eachBelow, inputsIn, inputsZeroed, markFormed, sessionIn, sessionFormed, pairsOf, inputBytes, inputsBytes, sessionBytes}
-use Rattle.forms.proofs.Written.{inputs-long, session-length}
+use Rattle.forms.specs.Forms.{sessionLength, resultLength, answerLength, eachBelow, inputsIn, inputsZeroed, markFormed, sessionIn, sessionFormed, resultAt, resultFormed, resultIn, pairsOf, inputBytes, inputsBytes, sessionBytes}
+use Rattle.forms.specs.Answers.{answerValues, writtenAt}
+use Rattle.forms.proofs.Written.{sets-whole, inputs-long, session-length}
 use Rattle.forms.proofs.Taken.{zeroAfter}
 
 halves : (n : ℕ) → n % 256 + 256 * (n / 256) ≡ n
@@ -71,12 +76,42 @@ module _ (x : Session) (long : length (x .inputs) ≡ 16) where
 
   pub session-formed : sessionFormed (sessionBytes x) ≡ true
   unfolding sessionFormed markFormed sessionBytes
-  session-formed =
-      let l : length (sessionBytes x) ≡ 74 = session-length x (inputs-long (x .inputs) long) in
-      rw (eq-eqb (length (sessionBytes x)) 74 l, inputs-zero (x .inputs) long rest, past 8, past 9, mark-low (x .halted))
+  session-formed = rw (inputs-zero (x .inputs) long rest, past 8, past 9, mark-low (x .halted))
+
+  pub session-long : length (sessionBytes x) ≡ sessionLength
+  session-long = session-length x (inputs-long (x .inputs) long)
 
   pub session-back : sessionIn (sessionBytes x) ≡ x
   unfolding sessionIn sessionBytes
   session-back =
       rw (inputs-back (x .inputs) long rest) (
       simp (past 0, past 1, past 2, past 3, past 4, past 5, past 6, past 7, past 8, halves, mark-back))
+
+-- ---- the result
+module _ (place : List ℕ) (long : length place ≡ answerLength) (r : Result) (d : ℕ) where
+  -- the beginning of an answer's place, once an accepted rule's answer is written there
+  abbrev begins : List ℕ
+  begins = take resultLength (writtenAt (answerValues (answerOf r d)) place .1)
+
+  -- all five values of an answer
+  abbrev filled : ℕ → ℕ → List ℕ
+  filled v m = pairsOf (r .state .assumed ∷ r .state .asserted ∷ v ∷ m ∷ d ∷ [])
+
+  fills : (v m : ℕ) → sets place 0 (filled v m) ≡ filled v m
+  fills v m = sets-whole place (filled v m) long
+
+  pub result-formed : resultFormed begins ≡ true
+  unfolding markFormed if_then_else_
+  result-formed = go (r .halted)
+    where
+      go : (b : Bool) → resultFormed (take resultLength (writtenAt (answerValues (pick b (Halt (r .state) d) (Out (r .state) (r .value) d))) place .1)) ≡ true
+      go true = rw (fills 0 1)
+      go false = rw (fills (r .value) 0)
+
+  pub result-back : resultIn begins ≡ resultOf (answerOf r d) r
+  unfolding resultIn if_then_else_
+  result-back = rw result-formed (go (r .halted))
+    where
+      go : (b : Bool) → resultAt (take resultLength (writtenAt (answerValues (pick b (Halt (r .state) d) (Out (r .state) (r .value) d))) place .1)) ≡ resultOf (pick b (Halt (r .state) d) (Out (r .state) (r .value) d)) r
+      go true = rw (fills 0 1) (simp halves)
+      go false = rw (fills (r .value) 0) (simp halves)

@@ -9,12 +9,13 @@ use lib.Dec.{eqb}
 use lib.ListN.{getD, set, take, length}
 use lib.Seq.{take-all, take-suc-set}
 use borrow.Author.Tests.{eq-eqb, ne-eqb, lt-ltb, le-ltb}
+use Rattle.notation.specs.Notation.{if_then_else_}
 use Rattle.semantics.specs.declared.Input.{Input}
 use Rattle.semantics.specs.Records.{pairAt}
 use Rattle.semantics.specs.Rules.{upTo}
 use Rattle.semantics.specs.Print.{inputAt}
 use Rattle.rules.proofs.Follow.{up-next, up-stop, up-end}
-use Rattle.forms.specs.Forms.{eachBelow, inputsIn, inputsZeroed, numbersIn, markFormed, sessionIn}
+use Rattle.forms.specs.Forms.{eachBelow, inputsIn, inputsZeroed, numbersIn, markFormed, sessionIn, resultFormed, resultIn}
 
 -- ---- an array that is filled from its first place on
 
@@ -71,3 +72,9 @@ pub session-taken : (s : List ℕ) {xs : List Input} → xs ≡ inputsIn s → {
     → {m : ℕ} → m ≡ getD s 72 0 → record { inputs = xs; count = count; state = record { assumed = assumed; asserted = asserted }; halted = eqb m 1; accepted = accepted } ≡ sessionIn s
 unfolding sessionIn
 session-taken s exs ec es et ea em = rw (exs, ec, es, et, ea, em)
+
+-- ---- a result of its form
+pub result-taken : (s : List ℕ) {b : Bool} → b ≡ resultFormed s → b ≡ true → {assumed asserted value : ℕ} → assumed ≡ pairAt s 0 → asserted ≡ pairAt s 2 → value ≡ pairAt s 4
+    → {m : ℕ} → m ≡ getD s 6 0 → record { state = record { assumed = assumed; asserted = asserted }; value = value; halted = eqb m 1 } ≡ resultIn s
+unfolding resultIn if_then_else_
+result-taken s eb h es et ev em = rw (← eb, h, es, et, ev, em)

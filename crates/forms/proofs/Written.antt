@@ -10,13 +10,14 @@ use Rattle.notation.specs.Notation.{bit}
 use Rattle.semantics.specs.declared.Input.{Input}
 use Rattle.semantics.specs.declared.Session.{Session}
 use Rattle.forms.specs.Forms.{pairsOf, inputBytes, inputsBytes, sessionBytes}
+use Rattle.forms.specs.Answers.{writtenAt}
 
 -- a store past the end of a list
 pub put-past : (s : List ℕ) (i v : ℕ) → length s ≤ i → s ≡ set s i v
 put-past s i v h = sym (set-out s i v h)
 
 -- a list of the length of what is stored is that
-sets-whole : (s vs : List ℕ) → length s ≡ length vs → sets s 0 vs ≡ vs
+pub sets-whole : (s vs : List ℕ) → length s ≡ length vs → sets s 0 vs ≡ vs
 sets-whole s vs h = sets-eq vs s 0 (omega arith) ∙ rw (drop-of-length-le s {i = 0 + length vs} (omega arith)) (append-nil vs)
 
 pub put-whole : (s vs : List ℕ) → length s ≡ length vs → {y : List ℕ} → y ≡ sets s 0 vs → y ≡ vs
@@ -39,13 +40,21 @@ put-four s i a b c d ew ex ey ez =
     ez ∙ rw (ey, ex, ew, two, four, six)
 
 -- a byte, a zero and what follows them
-module _ (s : List ℕ) (i b : ℕ) (vs : List ℕ) {y z w : List ℕ} where
-  pub put-tagged : y ≡ set s i b → z ≡ set y (i + 1) 0 → w ≡ sets z (i + 2) vs → w ≡ sets s i (b ∷ 0 ∷ vs)
-  put-tagged ey ez ew = let q : i + 2 ≡ suc (suc i) = omega arith in ew ∙ rw (ez, ey, add-one, q)
+pub put-tagged : (s : List ℕ) (i b : ℕ) (vs : List ℕ) {y z w : List ℕ} → y ≡ set s i b → z ≡ set y (i + 1) 0 → w ≡ sets z (i + 2) vs → w ≡ sets s i (b ∷ 0 ∷ vs)
+put-tagged s i b vs ey ez ew = let q : i + 2 ≡ suc (suc i) = omega arith in ew ∙ rw (ez, ey, add-one, q)
 
-  -- where the byte is the answer of a call
-  pub put-marked : {k : ℕ} → k ≡ b → y ≡ set s i k → z ≡ set y (i + 1) 0 → w ≡ sets z (i + 2) vs → w ≡ sets s i (b ∷ 0 ∷ vs)
-  put-marked ek ey = put-tagged (ey ∙ rw ek)
+-- ---- answers
+module _ (s : List ℕ) {y z : List ℕ} where
+  pub put-five : (a b c d e : ℕ) → y ≡ sets s 0 (pairsOf (a ∷ b ∷ c ∷ d ∷ [])) → z ≡ sets y 8 (pairsOf (e ∷ []))
+      → _≡_ {A = ℕ × List ℕ} (0, z) (writtenAt (0 ∷ a ∷ b ∷ c ∷ d ∷ e ∷ []) s)
+  put-five a b c d e ey ez = rw (ez, ey)
+
+  pub put-both : (a b : ℕ) → y ≡ sets s 0 (pairsOf (a ∷ [])) → z ≡ sets y 2 (pairsOf (b ∷ [])) → _≡_ {A = ℕ × List ℕ} (0, z) (writtenAt (0 ∷ a ∷ b ∷ []) s)
+  put-both a b ey ez = rw (ez, ey)
+
+-- an answer whose case is known
+pub put-case : {A : Type 0} (f : A → List ℕ) (s : List ℕ) {p q : A} → p ≡ q → {w : ℕ × List ℕ} → w ≡ writtenAt (f q) s → w ≡ writtenAt (f p) s
+put-case f s e g = rw e g
 
 -- ---- inputs
 inputs-length : (xs : List Input) → length (inputsBytes xs) ≡ 4 * length xs

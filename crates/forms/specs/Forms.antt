@@ -1,13 +1,12 @@
 -- The byte forms of the library: how a list of bytes stands for what an operation takes or gives. A number of two bytes has the low one
--- first. Each form has one length. Assumes nothing.
+-- first. Each form has one length. A form is broken by a byte that is to be zero and is not, and by a mark over 1. Assumes nothing.
 use Prim.Native.Nat.{ℕ, zero, suc, _+_, _*_, _/_, _%_}
-use mathlib.Core.Bool.{Bool, _&&_}
+use mathlib.Core.Bool.{Bool, false, _&&_}
 use mathlib.Core.List.{List, [], _∷_, _++_}
 use lib.Dec.{eqb, ltb}
 use lib.ListN.{getD, length}
-use Rattle.notation.specs.Notation.{bit}
+use Rattle.notation.specs.Notation.{bit, if_then_else_}
 use Rattle.semantics.specs.declared.Input.{Input}
-use Rattle.semantics.specs.declared.State.{State}
 use Rattle.semantics.specs.declared.Result.{Result}
 use Rattle.semantics.specs.declared.Session.{Session}
 use Rattle.semantics.specs.Numbers.{inputCount}
@@ -34,6 +33,10 @@ answerLength = 10
 abbrev pub readingLength : ℕ
 readingLength = 4
 
+-- what the library answers where it is lent a form of another length; document 01 knows no such number
+abbrev pub wrongLength : ℕ
+wrongLength = 255
+
 -- ---- from bytes
 
 -- f of each number below n, in order
@@ -45,9 +48,11 @@ eachBelow f (suc n) = eachBelow f n ++ (f n ∷ [])
 unfoldable pub inputsIn : List ℕ → List Input
 inputsIn s = eachBelow (inputAt s) inputCount
 
+-- the second byte of each is zero
 unfoldable pub inputsZeroed : List ℕ → Bool
 inputsZeroed s = upTo inputCount λ i. eqb (getD s (4 * i + 1) 0) 0
 
+-- "An input record cut short, or its second byte not zero, is refused by 2."; inputs are no longer than sixteen records either
 unfoldable pub inputsFormed : List ℕ → Bool
 inputsFormed s = eqb (length s) inputsLength && inputsZeroed s
 
@@ -70,15 +75,27 @@ sessionIn s =
       accepted = pairAt s 70;
     }
 
+-- a session's zeros and its mark; test 3 refuses another one
 unfoldable pub sessionFormed : List ℕ → Bool
-sessionFormed s = eqb (length s) sessionLength && (inputsZeroed s && markFormed s 72)
+sessionFormed s = inputsZeroed s && markFormed s 72
 
--- result: S, T and the value, two bytes each; the halted mark
+-- result: S, T and the value, two bytes each; the halted mark: the beginning of an answer
+abbrev pub resultAt : List ℕ → Result
+resultAt s = record { state = record { assumed = pairAt s 0; asserted = pairAt s 2 }; value = pairAt s 4; halted = eqb (getD s 6 0) 1 }
+
+-- a result's mark and its zero
+abbrev pub resultFormed : List ℕ → Bool
+resultFormed s = markFormed s 6
+
+-- a number that is no term's: a table has at most 8,192
+abbrev pub noTerm : ℕ
+noTerm = 65535
+
+-- a broken form is a result that names no term, so that 14 refuses it in its turn, after 3 and 13
 unfoldable pub resultIn : List ℕ → Result
-resultIn s = record { state = record { assumed = pairAt s 0; asserted = pairAt s 2 }; value = pairAt s 4; halted = eqb (getD s 6 0) 1 }
-
-unfoldable pub resultFormed : List ℕ → Bool
-resultFormed s = eqb (length s) resultLength && markFormed s 6
+resultIn s =
+    if resultFormed s then resultAt s else
+    record { state = record { assumed = noTerm; asserted = noTerm }; value = noTerm; halted = false }
 
 -- ---- to bytes
 
@@ -87,6 +104,7 @@ abbrev pub pairsOf : List ℕ → List ℕ
 pairsOf [] = []
 pairsOf (n ∷ ns) = n % 256 ∷ n / 256 ∷ pairsOf ns
 
+-- inputs, cut as above
 abbrev pub inputBytes : Input → List ℕ
 inputBytes x = x .kind ∷ 0 ∷ pairsOf (x .value ∷ [])
 
@@ -97,27 +115,3 @@ inputsBytes (x ∷ xs) = inputBytes x ++ inputsBytes xs
 -- a session, cut as above
 unfoldable pub sessionBytes : Session → List ℕ
 sessionBytes x = inputsBytes (x .inputs) ++ (pairsOf (x .count ∷ x .state .assumed ∷ x .state .asserted ∷ x .accepted ∷ []) ++ (bit (x .halted) ∷ 0 ∷ []))
-
--- answer: the halted mark; S, T, the value (0 of a halt) and the depth, two bytes each
-abbrev pub answerBytes : Bool → State → ℕ → ℕ → List ℕ
-answerBytes halted x v d = bit halted ∷ 0 ∷ pairsOf (x .assumed ∷ x .asserted ∷ v ∷ d ∷ [])
-
--- reading: what was read, a zero, and its number of two bytes
-abbrev pub readingBytes : ℕ → ℕ → List ℕ
-readingBytes tag n = tag ∷ 0 ∷ pairsOf (n ∷ [])
-
--- what a reading's first byte says: a truth, a word, a procedure, an abort or an error
-abbrev pub aTruth : ℕ
-aTruth = 0
-
-abbrev pub aWord : ℕ
-aWord = 1
-
-abbrev pub aProcedure : ℕ
-aProcedure = 2
-
-abbrev pub anAbort : ℕ
-anAbort = 3
-
-abbrev pub anError : ℕ
-anError = 4

@@ -1,9 +1,12 @@
 // The byte forms, read from a slice and written to one. What stands past a slice's end reads as 0 and is not written,
 // so that no function has a `requires`.
+use semantics::Answer;
 use semantics::Input;
+use semantics::Outcome;
 use semantics::Result;
 use semantics::Session;
 use semantics::State;
+use semantics::numbers;
 ghost use mathlib.Core.Path.{_≡_};
 ghost use mathlib.Core.List.{[], _∷_};
 ghost use Prim.Native.Nat.{_+_, _*_};
@@ -12,7 +15,8 @@ ghost use lib.Seq.{sets};
 ghost use Rattle.notation.specs.Notation.{bit};
 ghost use Rattle.semantics.specs.Records.{pairAt};
 ghost use Rattle.semantics.specs.Print.{inputAt};
-ghost use Rattle.forms.specs.Forms.{inputsIn, inputsZeroed, inputsFormed, numbersIn, markFormed, sessionIn, sessionFormed, resultIn, resultFormed, pairsOf, inputBytes, inputsBytes, sessionBytes, answerBytes, readingBytes};
+ghost use Rattle.forms.specs.Forms.{inputsIn, inputsZeroed, inputsFormed, numbersIn, markFormed, sessionIn, sessionFormed, resultIn, pairsOf, inputBytes, inputsBytes, sessionBytes};
+ghost use Rattle.forms.specs.Answers.{answerValues, outcomeValues, writtenAt};
 
 pub const INPUTS: usize = 64;
 
@@ -25,6 +29,12 @@ pub const RESULT: usize = 8;
 pub const ANSWER: usize = 10;
 
 pub const READING: usize = 4;
+
+// What the library answers where it is lent a form of another length.
+pub const WRONG_LENGTH: u8 = 255;
+
+// A number that is no term's.
+const NO_TERM: u16 = 65535;
 
 fn pair(low: u8, high: u8) -> u16
     ensures { λ r. ⌜ r ≡ low + 256 * high ⌝ }
@@ -113,22 +123,8 @@ fn mark_formed(s: &[u8], at: u16) -> bool
 pub fn session_formed(s: &[u8]) -> bool
     ensures { λ r. ⌜ r ≡ sessionFormed (now (s .entry)) ⌝ }
 {
-    if s.len() == SESSION {
-        if inputs_zeroed(s) {
-            mark_formed(s, 72)
-        } else {
-            false
-        }
-    } else {
-        false
-    }
-}
-
-pub fn result_formed(s: &[u8]) -> bool
-    ensures { λ r. ⌜ r ≡ resultFormed (now (s .entry)) ⌝ }
-{
-    if s.len() == RESULT {
-        mark_formed(s, 6)
+    if inputs_zeroed(s) {
+        mark_formed(s, 72)
     } else {
         false
     }
@@ -149,9 +145,20 @@ pub fn session_in(s: &[u8]) -> Session
     }
 }
 
+// A broken form is a result that names no term.
 pub fn result_in(s: &[u8]) -> Result
     ensures { λ r. ⌜ r ≡ resultIn (now (s .entry)) ⌝ }
 {
+    if mark_formed(s, 6) {} else {
+        return Result {
+            state: State {
+                assumed: NO_TERM,
+                asserted: NO_TERM,
+            },
+            value: NO_TERM,
+            halted: false,
+        };
+    }
     Result {
         state: State {
             assumed: two(s, 0),
@@ -190,7 +197,7 @@ fn put_four(s: &mut [u8], at: u8, a: u16, b: u16, c: u16, d: u16)
     put_two(s, i + 6, d);
 }
 
-pub fn bit_of(b: bool) -> u8
+fn bit_of(b: bool) -> u8
     ensures { λ r. ⌜ r ≡ bit b ⌝ }
 {
     if b { 1 } else { 0 }
@@ -226,19 +233,49 @@ pub fn put_session(s: &mut [u8], x: Session)
     put(s, 73, 0);
 }
 
-pub fn put_answer(s: &mut [u8], halted: bool, x: State, value: u16, depth: u16)
-    ensures { λ _. ⌜ now (s .exit) ≡ sets (now (s .entry)) 0 (answerBytes halted x value depth) ⌝ }
+// S, T, the value, the halted mark and the depth.
+fn put_result(place: &mut [u8], x: State, value: u16, mark: u16, depth: u16) -> u8
+    ensures { λ r. ⌜ (r, now (place .exit)) ≡ writtenAt (0 ∷ x .assumed ∷ x .asserted ∷ value ∷ mark ∷ depth ∷ []) (now (place .entry)) ⌝ }
 {
-    put(s, 0, bit_of(halted));
-    put(s, 1, 0);
-    put_four(s, 2, x.assumed, x.asserted, value, depth);
+    put_four(place, 0, x.assumed, x.asserted, value, mark);
+    put_two(place, 8, depth);
+    0
 }
 
-// What was read, and its number.
-pub fn put_tagged(s: &mut [u8], tag: u8, n: u16)
-    ensures { λ _. ⌜ now (s .exit) ≡ sets (now (s .entry)) 0 (readingBytes tag n) ⌝ }
+// What an evaluation answered, at its place; or the refusal.
+pub fn put_answer(place: &mut [u8], a: Answer) -> u8
+    ensures { λ r. ⌜ (r, now (place .exit)) ≡ writtenAt (answerValues a) (now (place .entry)) ⌝ }
 {
-    put(s, 0, tag);
-    put(s, 1, 0);
-    put_two(s, 2, n);
+    match a {
+        Answer::Out {
+            state,
+            value,
+            depth,
+        } => put_result(place, state, value, 0, depth),
+        Answer::Halt { state, depth } => put_result(place, state, 0, 1, depth),
+        Answer::Refused(k) => k,
+    }
+}
+
+// A kind and a number.
+fn put_kind(place: &mut [u8], kind: u8, n: u16) -> u8
+    ensures { λ r. ⌜ (r, now (place .exit)) ≡ writtenAt (0 ∷ kind ∷ n ∷ []) (now (place .entry)) ⌝ }
+{
+    put_two(place, 0, kind as u16);
+    put_two(place, 2, n);
+    0
+}
+
+// What was read or run, at its place; or the refusal.
+pub fn put_outcome(place: &mut [u8], o: Outcome) -> u8
+    ensures { λ r. ⌜ (r, now (place .exit)) ≡ writtenAt (outcomeValues o) (now (place .entry)) ⌝ }
+{
+    match o {
+        Outcome::Truth(b) => put_kind(place, numbers::TRUTH_TERM, bit_of(b) as u16),
+        Outcome::Word(w) => put_kind(place, numbers::WORD_TERM, w),
+        Outcome::Procedure(i) => put_kind(place, numbers::PROCEDURE_TERM, i),
+        Outcome::Abort => put_kind(place, numbers::ABORT_RECORD, 0),
+        Outcome::Error => put_kind(place, numbers::ERROR_RECORD, 0),
+        Outcome::Refused(k) => k,
+    }
 }

@@ -1,5 +1,3 @@
-pub mod Adding
-pub mod Decimals
 pub mod Taken
 pub mod Lines
 pub mod Told

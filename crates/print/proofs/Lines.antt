@@ -5,7 +5,6 @@ use Prim.Native.Nat.{ℕ, suc, _+_, _-_, _*_, _<_, _≤_}
 use native.Mathlib.Numerals.{add-one}
 use native.Mathlib.Omega.{arith}
 use lib.ListN.{length, take}
-use lib.Seq.{length-take-le}
 use Rattle.semantics.specs.declared.Term.{Term}
 use Rattle.semantics.specs.declared.State.{State}
 use Rattle.semantics.specs.declared.Answer.{Answer}
@@ -16,13 +15,11 @@ use Rattle.semantics.specs.Evaluate.{evaluateOf}
 use Rattle.semantics.specs.Numbers.{termLimit}
 use Rattle.semantics.specs.Terms.{termAt}
 use Rattle.semantics.specs.Print.{Line, refusal, termLine, termLines, answerLines, printAllowance, evaluationLines}
-use Rattle.print.specs.Text.{ascii, joined, numbersText, lineText, linesText}
-use Rattle.print.specs.Appends.{lineBytes, Appends, Writes, Told}
-use Rattle.print.proofs.Adding.{both-added}
-
--- a text from the start on, in a buffer that has room for it
-written : {m : ℕ} {t s y : List ℕ} {r : ℕ} → m ≤ length y → Appends m t s 0 y r → Writes t y r
-written {y = y} {r} h p = let a = p .high in let b : r ≤ length y = omega arith in record { counts = (b, sym (length-take-le r y b)); is = p .is }
+use Rattle.text.specs.Text.{ascii, joined, numbersText}
+use Rattle.print.specs.Written.{lineText, linesText}
+use Rattle.text.specs.Appends.{Appends, Writes}
+use Rattle.print.specs.Room.{lineBytes, Told}
+use Rattle.text.proofs.Adding.{both-added, written}
 
 -- ---- lines of terms
 

@@ -18,7 +18,7 @@ use Rattle.semantics.specs.Opening.{openOf}
 use Rattle.semantics.specs.Fits.{fitsOf}
 use Rattle.semantics.specs.Evaluate.{refusedBy, evaluateOf}
 use Rattle.semantics.specs.Print.{printAllowance, inputBytes, inputsFrom, inputsWhole, evaluationLines, openingLines, printedOf}
-use Rattle.print.specs.Text.{linesText, writtenOf}
+use Rattle.print.specs.Written.{linesText, writtenOf}
 use Rattle.print.specs.Read.{Read}
 
 -- ---- a rule that is too long is refused, whatever its bytes

@@ -14,8 +14,8 @@ use Rattle.semantics.specs.Numbers.{inputCount, mostTable, badInput}
 use Rattle.semantics.specs.Opening.{badTableSize, inputTaken, openOf}
 use Rattle.semantics.specs.Rules.{every}
 use Rattle.semantics.specs.Print.{inputBytes, refusal, inputsFrom, inputsWhole, evaluationLines, openingLines, printedOf}
-use Rattle.print.specs.Text.{lineText, linesText, writtenOf}
-use Rattle.print.specs.Appends.{Writes}
+use Rattle.print.specs.Written.{lineText, linesText, writtenOf}
+use Rattle.text.specs.Appends.{Writes}
 use Rattle.print.proofs.Taken.{inputs-length}
 
 open-inputs : (xs : List Input) (z : List ℕ) → openOf xs z .0 .session .inputs ≡ xs

@@ -1,3 +1,3 @@
-pub mod Text
-pub mod Appends
+pub mod Written
+pub mod Room
 pub mod Read

@@ -4,7 +4,6 @@
 // operating system hands over and takes: `main` reads until its buffer is full, the input ends or a read fails, and
 // writes until all is written or a write fails.
 mod inputs;
-mod text;
 
 use libc::STDIN_FILENO;
 use libc::STDOUT_FILENO;
@@ -19,8 +18,9 @@ ghost use lib.ListN.{length, take};
 ghost use Rattle.semantics.specs.Numbers.{inputCount};
 ghost use Rattle.semantics.specs.Print.{refusal, termLine, termLines, answerLines, evaluationLines};
 ghost use Rattle.io.specs.Counts.{Counts};
-ghost use Rattle.print.specs.Text.{lineText, linesText, writtenOf};
-ghost use Rattle.print.specs.Appends.{lineBytes, Appends, Writes, Told};
+ghost use Rattle.print.specs.Written.{lineText, linesText, writtenOf};
+ghost use Rattle.text.specs.Appends.{Appends, Writes};
+ghost use Rattle.print.specs.Room.{lineBytes, Told};
 ghost use Rattle.print.specs.Read.{Read};
 
 const ALLOWANCE: u16 = 100;
@@ -89,7 +89,7 @@ fn put_evaluation(out: &mut [u8; OUTPUT], session: Session, table: &mut [u8], ru
     requires { ⌜ length (session .inputs) ≡ inputCount ⌝ }
     ensures { λ r. ⌜ Writes (linesText (evaluationLines (now (rule .entry)) session (now (table .entry)))) (now (out .exit)) r ⌝ }
 {
-    let e = sessions::evaluate(session, table, rule, ALLOWANCE);
+    let e = entry::enter_once(session, table, rule, ALLOWANCE);
     let answer = e.answer;
     let after = e.session;
     put_answer(out, answer, table, session.count, after.count)

@@ -3,18 +3,14 @@ use Prim.Native.Nat.{ℕ, zero, suc}
 use mathlib.Core.List.{List, [], _∷_, _++_}
 use lib.ListN.{replicate}
 use Rattle.notation.specs.Notation.{with, if_equals_then_else_}
-use Rattle.semantics.specs.declared.Term.{Term}
 use Rattle.semantics.specs.declared.Input.{Input}
-use Rattle.semantics.specs.declared.Result.{Result}
-use Rattle.semantics.specs.declared.Session.{Session}
 use Rattle.semantics.specs.declared.Opened.{Opened}
-use Rattle.semantics.specs.declared.Evaluated.{Evaluated}
-use Rattle.semantics.specs.Answers.{answerValues, outcomeValues}
 use Rattle.semantics.specs.Terms.{termAt}
 use Rattle.semantics.specs.Opening.{openOf}
 use Rattle.semantics.specs.PlainRun.{runPlainlyOf}
-use Rattle.semantics.specs.History.{Call, History, begun, called}
+use Rattle.semantics.specs.History.{History, begun, called}
 use Rattle.semantics.specs.Print.{Line, out, halt, refusal, numbers}
+use Rattle.forms.specs.Answers.{outcomeValues}
 use Rattle.cases.specs.Table.{answer, reading, call}
 
 -- A plain run has the opening's inputs and a store of so many bytes.

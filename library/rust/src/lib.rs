@@ -15,7 +15,8 @@ pub enum Input {
     FreeWord,
 }
 
-/// Refused, by document 01's number.
+/// Refused, by document 01's number. 255, the library's own for a form of another length, does not come: every form is
+/// lent with its length.
 #[derive(Clone, Copy, Debug, PartialEq, Eq)]
 pub struct Refusal(pub u8);
 
@@ -75,8 +76,8 @@ impl Desk {
             allowance,
             &mut form,
         ))?;
-        let [assumed, asserted, value, depth] = [2, 4, 6, 8].map(|at| two(&form, at));
-        Ok(if form[0] == 1 {
+        let [assumed, asserted, value, halted, depth] = [0, 2, 4, 6, 8].map(|at| two(&form, at));
+        Ok(if halted == 1 {
             Answer::Halt {
                 assumed,
                 asserted,
@@ -100,20 +101,18 @@ impl Desk {
                 asserted,
                 value,
                 ..
-            } => (assumed, asserted, value, false),
+            } => (assumed, asserted, value, 0),
             Answer::Halt {
                 assumed, asserted, ..
-            } => (assumed, asserted, 0, true),
+            } => (assumed, asserted, 0, 1),
         };
-        let mut result = pairs(&[assumed, asserted, value]);
-        result.extend([u8::from(halted), 0]);
         let mut work = vec![0; usize::from(self.count())];
         let mut form = [0; 4];
         accepted(exports::read(
             &self.session,
             &self.table,
             &pairs(numbers),
-            &result,
+            &pairs(&[assumed, asserted, value, halted]),
             &mut work,
             &mut form,
         ))?;
@@ -194,10 +193,10 @@ fn two(bytes: &[u8], at: usize) -> u16 {
 fn reading(form: [u8; 4]) -> Reading {
     let number = two(&form, 2);
     match form[0] {
-        0 => Reading::Truth(number == 1),
-        1 => Reading::Word(number),
-        2 => Reading::Procedure(number),
-        3 => Reading::Abort,
+        1 => Reading::Truth(number == 1),
+        2 => Reading::Word(number),
+        7 => Reading::Procedure(number),
+        8 => Reading::Abort,
         _ => Reading::Error,
     }
 }

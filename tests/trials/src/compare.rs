@@ -1,10 +1,10 @@
-//! One comparison of each operation, and the second evaluator's tests, through its operations.
+//! One comparison of each operation, which gives back the desk's refusal or 0, and the second evaluator's tests, through
+//! its operations.
 
 use crate::desk;
+use crate::made::FALSE;
 use crate::tally::Tally;
 use second::{evaluate, open, read, run, Answer, Input, Outcome, ResultOf, Session};
-
-pub const FALSE: Input = Input { kind: 0, value: 0 };
 
 /// Tests 4 to 7: a run on good inputs with an allowance of 0 goes no further than 8.
 pub fn second_rule_refusal(bytes: &[u8]) -> u8 {
@@ -33,7 +33,7 @@ fn answer_number(outcome: Outcome) -> u8 {
     }
 }
 
-pub fn compare_open(tally: &mut Tally, inputs: &[Input; 16], bytes: usize) {
+pub fn compare_open(tally: &mut Tally, inputs: &[Input; 16], bytes: usize) -> u8 {
     let (mut ours, mut theirs) = (vec![0x5a; bytes], vec![0x5a; bytes]);
     let mut session = vec![0xa5; 74];
     let refusal = desk::open(&desk::inputs_bytes(inputs), &mut ours, &mut session);
@@ -45,19 +45,22 @@ pub fn compare_open(tally: &mut Tally, inputs: &[Input; 16], bytes: usize) {
     tally.same("open", refusal, expected);
     tally.same_bytes("open's table", &ours, &theirs);
     tally.same_bytes("open's session", &session, &form);
+    refusal
 }
 
-pub fn compare_rule(tally: &mut Tally, bytes: &[u8]) {
+pub fn compare_rule(tally: &mut Tally, bytes: &[u8]) -> u8 {
     let (ours, theirs) = (desk::rule_refusal(bytes), second_rule_refusal(bytes));
     tally.saw("rule", theirs);
     tally.same("rule refusal", ours, theirs);
+    ours
 }
 
-pub fn compare_fits(tally: &mut Tally, session: &Session, table: &[u8]) {
+pub fn compare_fits(tally: &mut Tally, session: &Session, table: &[u8]) -> u8 {
     let ours = desk::fits(&desk::session_bytes(session), table);
     let theirs = second_fits(session, table);
     tally.saw("fits", theirs);
     tally.same("fits", ours, theirs);
+    ours
 }
 
 pub fn compare_run(
@@ -67,7 +70,7 @@ pub fn compare_run(
     bytes: &[u8],
     allowance: u16,
     store: usize,
-) {
+) -> u8 {
     let mut ours = vec![0x5a; store];
     let mut reading = desk::UNREAD;
     let refusal = desk::run(
@@ -86,6 +89,7 @@ pub fn compare_run(
         ours.iter().all(|&byte| byte == 0),
         true,
     );
+    refusal
 }
 
 pub fn compare_read(
@@ -95,7 +99,7 @@ pub fn compare_read(
     numbers: &[u16; 16],
     result: &ResultOf,
     work: usize,
-) {
+) -> u8 {
     let mut ours = vec![0x5a5a_5a5a; work];
     let mut reading = desk::UNREAD;
     let refusal = desk::read(
@@ -110,6 +114,7 @@ pub fn compare_read(
     tally.saw("read", answer_number(outcome));
     tally.same("read", (refusal, reading), desk::outcome_bytes(outcome));
     tally.same("read's work is zero", ours.iter().all(|&n| n == 0), true);
+    refusal
 }
 
 pub fn result_of(answer: Answer) -> Option<ResultOf> {

@@ -1,14 +1,14 @@
 //! Evaluations: the desk and the second evaluator go through the same sessions side by side.
 
-use crate::compare::{compare_fits, result_of, FALSE};
+use crate::choices::{called_asserted, chain, halves, procedures};
+use crate::compare::{compare_fits, result_of};
 use crate::desk;
-use crate::rules::{chained_targets, guarded_update, self_application};
+use crate::made::{FALSE, FREE_TRUTH};
+use crate::rules::{guarded_update, self_application};
 use crate::session_trials::readings;
 use crate::tally::Tally;
 use second::dice::{record, rule, Dice};
 use second::{evaluate, open, Answer, Input, Session};
-
-const UNANSWERED: [u8; 10] = [0xa5; 10];
 
 /// One session, kept by both.
 pub struct Pair {
@@ -21,45 +21,43 @@ pub struct Pair {
 impl Pair {
     /// Nothing where the opening is refused.
     pub fn open(inputs: &[Input; 16], bytes: usize) -> Option<Pair> {
-        let mut theirs = vec![0; bytes];
-        let session = open(inputs, &mut theirs).ok()?;
-        let form = desk::session_bytes(&session);
-        let ours = theirs.clone();
-        Some(Pair {
-            form,
-            ours,
+        let mut table = vec![0; bytes];
+        let session = open(inputs, &mut table).ok()?;
+        Some(Pair::of(session, table))
+    }
+
+    pub fn of(session: Session, table: Vec<u8>) -> Pair {
+        Pair {
+            form: desk::session_bytes(&session),
+            ours: table.clone(),
             session,
-            theirs,
-        })
+            theirs: table,
+        }
+    }
+
+    /// The second evaluator's answer.
+    pub fn evaluate(&mut self, tally: &mut Tally, bytes: &[u8], allowance: u16) -> Answer {
+        self.both(tally, bytes, allowance).1
+    }
+
+    /// The desk's refusal or 0.
+    pub fn refusal(&mut self, tally: &mut Tally, bytes: &[u8], allowance: u16) -> u8 {
+        self.both(tally, bytes, allowance).0
     }
 
     /// The answer, the session and every byte of the table are the same afterwards.
-    pub fn evaluate(&mut self, tally: &mut Tally, bytes: &[u8], allowance: u16) -> Answer {
-        let mut given = UNANSWERED;
+    fn both(&mut self, tally: &mut Tally, bytes: &[u8], allowance: u16) -> (u8, Answer) {
+        let mut given = desk::UNANSWERED;
         let refusal = desk::evaluate(&mut self.form, &mut self.ours, bytes, allowance, &mut given);
         let answer = evaluate(&mut self.session, &mut self.theirs, bytes, allowance);
-        let (expected, wanted) = answer_bytes(answer);
+        let (expected, wanted) = desk::answer_bytes(answer);
         tally.saw("evaluate", expected);
         tally.same("evaluate", (refusal, given), (expected, wanted));
         let form = desk::session_bytes(&self.session);
         tally.same_bytes("evaluate's session", &self.form, &form);
         tally.same_bytes("evaluate's table", &self.ours, &self.theirs);
-        answer
+        (refusal, answer)
     }
-}
-
-/// The refusal or 0, and the answer's ten bytes then.
-fn answer_bytes(answer: Answer) -> (u8, [u8; 10]) {
-    let (halted, s, t, value, depth) = match answer {
-        Answer::Out { s, t, value, depth } => (0, s, t, value, depth),
-        Answer::Halt { s, t, depth } => (1, s, t, 0, depth),
-        Answer::Refused(refusal) => return (refusal, UNANSWERED),
-    };
-    let mut bytes = [halted, 0, 0, 0, 0, 0, 0, 0, 0, 0];
-    for (place, number) in bytes[2..].chunks_exact_mut(2).zip([s, t, value, depth]) {
-        place.copy_from_slice(&number.to_le_bytes());
-    }
-    (0, bytes)
 }
 
 pub fn all(tally: &mut Tally) {
@@ -71,7 +69,6 @@ pub fn all(tally: &mut Tally) {
     reads_as_runs(tally);
     guarded_updates(tally);
     thousand_rules(tally);
-    forms(tally);
 }
 
 /// P10 and its neighbours: "apply my argument to itself", applied to itself, at every allowance.
@@ -100,59 +97,20 @@ fn datum_and_let(tally: &mut Tally) {
     }
 }
 
-/// A rule that calls a choice of so many procedures, by tests of the free words at places 1 to 15.
-fn many_targets(targets: u16) -> Vec<u8> {
-    let mut records = vec![record(6, 0, 0, 0, 0)];
-    let root = choices(&mut records, 0, targets);
-    let call = records.len() as u16;
-    records.push(record(4, 0, 0, 1, 0));
-    records[0] = record(6, 0, root, call, 0);
-    rule(&records)
-}
-
-/// A balanced tree of ifs; each test is bound by a let, so that it is a new truth.
-fn choices(records: &mut Vec<second::Record>, bindings: u16, targets: u16) -> u16 {
-    let number = records.len() as u16;
-    if targets == 1 {
-        records.push(record(3, 0, number + 1, 0, 0));
-        records.push(record(1, 2, number, 0, 0));
-        return number;
-    }
-    records.push(record(6, 0, number + 1, 0, 0));
-    records.push(record(5, 11, bindings, bindings + 1, 0));
-    let branch = records.len() as u16;
-    records.push(record(7, 0, 0, 0, 0));
-    let then = choices(records, bindings + 1, targets / 2);
-    let other = choices(records, bindings + 1, targets - targets / 2);
-    records[usize::from(branch)] = record(7, 0, 0, then, other);
-    records[usize::from(number)] = record(6, 0, number + 1, branch, 0);
-    number
-}
-
-/// Calls of 1 to 70 targets, in tables that fill at every place of the walk, the bindings and the merge.
+/// Calls of up to 66 targets, in tables that fill at every place of the choice, the walk, the bindings and the merge.
 fn leaves(tally: &mut Tally) {
-    let truths = [Input { kind: 2, value: 0 }; 16];
-    let words = [Input { kind: 3, value: 0 }; 16];
-    for targets in (1..=10).chain([31, 32, 33, 63, 64, 65, 66, 70]) {
-        let cases = [
-            (
-                truths,
-                chained_targets(targets, 1, |n| record(1, 2, n, 0, 0)),
-            ),
-            (words, many_targets(targets)),
-        ];
-        for (inputs, bytes) in cases {
-            let mut whole = Pair::open(&inputs, 65_536).expect("a good opening");
-            whole.evaluate(tally, &bytes, 256);
-            let opened = 34;
-            let needed = usize::from(whole.session.count).max(opened + 400);
-            for terms in (opened..=needed + 1).step_by(1 + needed / 700) {
-                let mut pair = Pair::open(&inputs, 8 * terms).expect("a good opening");
-                pair.evaluate(tally, &bytes, 256);
+    let open = |records: usize| Pair::open(&[FREE_TRUTH; 16], 8 * records).expect("a good opening");
+    for targets in (1..=8).chain([32, 63, 64, 65, 66]) {
+        let leaves = procedures(targets);
+        for chosen in [halves(&leaves), chain(leaves)] {
+            let rule = called_asserted(chosen);
+            for records in 34.. {
+                if open(records).evaluate(tally, &rule, 256) != Answer::Refused(11) {
+                    break;
+                }
             }
             for allowance in 1..=20 {
-                let mut pair = Pair::open(&inputs, 65_536).expect("a good opening");
-                pair.evaluate(tally, &bytes, allowance);
+                open(8_192).evaluate(tally, &rule, allowance);
             }
         }
     }
@@ -218,7 +176,8 @@ fn random_sessions(tally: &mut Tally) {
     }
 }
 
-/// The desk's reading of the last result is what its plain runs of the accepted rules in turn give.
+/// The desk's reading of the last result, taken from the answer as it stands, is what its plain runs of the accepted
+/// rules in turn give.
 fn reads_as_runs(tally: &mut Tally) {
     let mut dice = Dice(0x5a3e);
     for _ in 0..4_000 {
@@ -229,19 +188,18 @@ fn reads_as_runs(tally: &mut Tally) {
             let size = dice.below(24) + 1;
             let bytes = dice.rule(size);
             let answer = pair.evaluate(tally, &bytes, 24);
-            let (Some(result), (_, form)) = (result_of(answer), answer_bytes(answer)) else {
+            let (0, form) = desk::answer_bytes(answer) else {
                 continue;
             };
             accepted.push((bytes, u16::from_le_bytes([form[8], form[9]])));
             for _ in 0..4 {
                 let numbers = desk::numbers_bytes(&dice.numbers(&inputs));
                 let (mut work, mut reading) = (vec![0; 512], desk::UNREAD);
-                let form = desk::result_bytes(&result);
                 desk::read(
                     &pair.form,
                     &pair.ours,
                     &numbers,
-                    &form,
+                    &form[..8],
                     &mut work,
                     &mut reading,
                 );
@@ -258,7 +216,7 @@ fn ran_in_turn(inputs: &[u8], numbers: &[u8], rules: &[(Vec<u8>, u16)]) -> [u8; 
     for (bytes, depth) in rules {
         let mut store = vec![0; 65_536];
         desk::run(inputs, numbers, bytes, *depth, &mut store, &mut reading);
-        if reading[0] > 2 {
+        if reading[0] >= 8 {
             break;
         }
     }
@@ -291,29 +249,4 @@ fn thousand_rules(tally: &mut Tally) {
     }
     let answer = pair.evaluate(tally, &bytes, 1);
     tally.same("rule 1,001", answer, Answer::Refused(9));
-}
-
-/// Byte forms of wrong lengths.
-fn forms(tally: &mut Tally) {
-    let pair = Pair::open(&[FALSE; 16], 272).expect("a good opening");
-    let bytes = rule(&[record(1, 1, 0, 0, 0)]);
-    for length in (0..100).filter(|&n| n != 74) {
-        let (mut form, mut table) = (pair.form.clone(), pair.ours.clone());
-        form.resize(length, 0);
-        let before = form.clone();
-        let mut given = UNANSWERED;
-        let refusal = desk::evaluate(&mut form, &mut table, &bytes, 1, &mut given);
-        tally.same("session's length", (refusal, given), (3, UNANSWERED));
-        tally.same_bytes("session's length", &form, &before);
-        tally.same_bytes("session's length", &table, &pair.ours);
-    }
-    for length in (0..20).filter(|&n| n != 10) {
-        let (mut form, mut table) = (pair.form.clone(), pair.ours.clone());
-        let mut given = vec![0xa5; length];
-        let refusal = desk::evaluate(&mut form, &mut table, &bytes, 1, &mut given);
-        tally.same("answer's length", refusal, 14);
-        tally.same("answer's length", given, vec![0xa5; length]);
-        tally.same_bytes("answer's length", &form, &pair.form);
-        tally.same_bytes("answer's length", &table, &pair.ours);
-    }
 }

@@ -1,37 +1,63 @@
-//! Byte forms of wrong lengths, or with a mark or a zero that is another number.
+//! Byte forms of wrong lengths, or with a mark or a zero that is another number: each is refused by its number, in the
+//! operation's order of tests.
 
-use crate::desk;
+use crate::desk::{self, UNANSWERED, UNREAD};
 use crate::session_trials::small_session;
 use crate::tally::Tally;
 use second::dice::{record, rule};
 use second::ResultOf;
 
+const WRONG_LENGTH: u8 = 255;
+
 pub fn all(tally: &mut Tally) {
-    let good = Forms::good();
-    let truth = (0, vec![0, 0, 1, 0]);
-    let no = (0, vec![0, 0, 0, 0]);
-    tally.same("a read", good.read(4), no);
-    tally.same("a run", good.run(4), truth);
-    tally.same("an opening", good.open(74), (0, false));
-    lengths(tally, &good);
+    let good = Lent::good();
+    for (what, call) in CALLS {
+        answers(tally, what, call(&good), 0);
+    }
+    lengths(tally, &good, &good);
+    lengths(tally, &good, &good.spoiled());
+    inputs_lengths(tally, &good);
     for other in 1..=255 {
         zeros(tally, &good, other);
         marks(tally, &good, other);
     }
+    orders(tally, &good);
 }
 
-/// What the exports take, in bytes.
-#[derive(Clone)]
-struct Forms {
+/// Everything that the exports are lent.
+#[derive(Clone, PartialEq)]
+struct Lent {
     inputs: Vec<u8>,
     numbers: Vec<u8>,
     session: Vec<u8>,
-    result: Vec<u8>,
     table: Vec<u8>,
+    rule: Vec<u8>,
+    answer: Vec<u8>,
+    result: Vec<u8>,
+    work: Vec<u32>,
+    store: Vec<u8>,
+    reading: Vec<u8>,
 }
 
-impl Forms {
-    fn good() -> Forms {
+/// The number that an export answers, and whether a refused call left what it was lent as it was, but for a work list and
+/// a store of zeros.
+type Told = (u8, bool);
+type Call = fn(&Lent) -> Told;
+
+fn answers(tally: &mut Tally, what: &str, told: Told, number: u8) {
+    tally.same(what, told, (number, true));
+}
+
+const CALLS: [(&str, Call); 5] = [
+    ("open", Lent::open),
+    ("fits", Lent::fits),
+    ("evaluate", Lent::evaluate),
+    ("read", Lent::read),
+    ("run", Lent::run),
+];
+
+impl Lent {
+    fn good() -> Lent {
         let (session, table) = small_session();
         let result = ResultOf {
             s: 1,
@@ -39,114 +65,201 @@ impl Forms {
             value: 0,
             halted: false,
         };
-        Forms {
+        Lent {
             inputs: desk::inputs_bytes(&session.inputs),
             numbers: desk::numbers_bytes(&[0; 16]),
             session: desk::session_bytes(&session),
-            result: desk::result_bytes(&result),
             table,
+            rule: rule(&[record(1, 1, 0, 0, 0)]),
+            answer: UNANSWERED.to_vec(),
+            result: desk::result_bytes(&result),
+            work: vec![9; 60],
+            store: vec![9; 200],
+            reading: UNREAD.to_vec(),
         }
     }
 
     /// The same, but for a change.
-    fn but(&self, change: impl FnOnce(&mut Forms)) -> Forms {
-        let mut forms = self.clone();
-        change(&mut forms);
-        forms
+    fn but(&self, change: impl FnOnce(&mut Lent)) -> Lent {
+        let mut lent = self.clone();
+        change(&mut lent);
+        lent
     }
 
-    /// The refusal or 0, and what then stands at a reading's place of so many bytes.
-    fn read(&self, place: usize) -> (u8, Vec<u8>) {
-        let (mut work, mut reading) = (vec![9; 60], vec![0xa5; place]);
-        let refusal = desk::read(
-            &self.session,
-            &self.table,
-            &self.numbers,
-            &self.result,
-            &mut work,
-            &mut reading,
-        );
-        assert!(work.iter().all(|&n| n == 0));
-        (refusal, reading)
+    /// What every test refuses, of the right lengths.
+    fn spoiled(&self) -> Lent {
+        self.but(|lent| {
+            lent.inputs[1] = 1;
+            lent.numbers[0] = 2;
+            lent.session[72] = 2;
+            lent.table.pop();
+            lent.rule.clear();
+            lent.result[6] = 2;
+            lent.work.clear();
+            lent.store.clear();
+        })
     }
 
-    /// The same for the run of a datum.
-    fn run(&self, place: usize) -> (u8, Vec<u8>) {
-        let datum = rule(&[record(1, 1, 0, 0, 0)]);
-        let (mut store, mut reading) = (vec![9; 200], vec![0xa5; place]);
-        let refusal = desk::run(
-            &self.inputs,
-            &self.numbers,
-            &datum,
-            1,
-            &mut store,
-            &mut reading,
-        );
-        assert!(store.iter().all(|&byte| byte == 0));
-        (refusal, reading)
+    fn call(&self, call: impl FnOnce(&mut Lent) -> u8) -> Told {
+        let mut lent = self.clone();
+        let number = call(&mut lent);
+        (number, number == 0 || lent == *self)
     }
 
-    /// The refusal or 0, and whether the table and the session's place of so many bytes are as they were.
-    fn open(&self, place: usize) -> (u8, bool) {
-        let (mut table, mut session) = (vec![9; 272], vec![0xa5; place]);
-        let refusal = desk::open(&self.inputs, &mut table, &mut session);
-        let untouched =
-            table.iter().all(|&byte| byte == 9) && session.iter().all(|&byte| byte == 0xa5);
-        (refusal, untouched)
+    fn open(&self) -> Told {
+        self.call(|lent| desk::open(&lent.inputs, &mut lent.table, &mut lent.session))
     }
 
-    fn fits(&self) -> u8 {
-        desk::fits(&self.session, &self.table)
+    fn fits(&self) -> Told {
+        (desk::fits(&self.session, &self.table), true)
+    }
+
+    fn evaluate(&self) -> Told {
+        self.call(|lent| {
+            desk::evaluate(
+                &mut lent.session,
+                &mut lent.table,
+                &lent.rule,
+                1,
+                &mut lent.answer,
+            )
+        })
+    }
+
+    fn read(&self) -> Told {
+        self.call(|lent| {
+            let number = desk::read(
+                &lent.session,
+                &lent.table,
+                &lent.numbers,
+                &lent.result,
+                &mut lent.work,
+                &mut lent.reading,
+            );
+            assert!(lent.work.iter().all(|&n| n == 0));
+            lent.work.clone_from(&self.work);
+            number
+        })
+    }
+
+    fn run(&self) -> Told {
+        self.call(|lent| {
+            let number = desk::run(
+                &lent.inputs,
+                &lent.numbers,
+                &lent.rule,
+                1,
+                &mut lent.store,
+                &mut lent.reading,
+            );
+            assert!(lent.store.iter().all(|&byte| byte == 0));
+            lent.store.clone_from(&self.store);
+            number
+        })
     }
 }
 
-fn lengths(tally: &mut Tally, good: &Forms) {
-    for length in (0..100).filter(|&n| n != 74) {
-        let other = good.but(|forms| forms.session.resize(length, 0));
-        tally.same("session's length", other.fits(), 3);
-        tally.same("session's length", other.read(4).0, 3);
-        tally.same("session's length", good.open(length), (3, true));
+/// Every length from 0 to 99 but one.
+fn other_lengths(right: usize) -> impl Iterator<Item = usize> {
+    (0..100).filter(move |&length| length != right)
+}
+
+/// A place of a fixed length, by 255, before anything else that could be refused.
+fn lengths(tally: &mut Tally, good: &Lent, lent: &Lent) {
+    let wrong = |tally: &mut Tally, what, other: Lent, calls: &[Call]| {
+        for call in calls {
+            answers(tally, what, call(&other), WRONG_LENGTH);
+        }
+    };
+    for length in other_lengths(good.session.len()) {
+        let other = lent.but(|lent| lent.session.resize(length, 0));
+        let calls: [Call; 4] = [Lent::open, Lent::fits, Lent::evaluate, Lent::read];
+        wrong(tally, "session's length", other, &calls);
     }
-    for length in (0..100).filter(|&n| n != 64) {
-        let other = good.but(|forms| forms.inputs.resize(length, 0));
-        tally.same("inputs' length", other.run(4).0, 2);
-        tally.same("inputs' length", other.open(74), (2, true));
+    for length in other_lengths(good.answer.len()) {
+        let other = lent.but(|lent| lent.answer.resize(length, 0xa5));
+        wrong(tally, "answer's length", other, &[Lent::evaluate]);
     }
-    for length in (0..100).filter(|&n| n != 32) {
-        let other = good.but(|forms| forms.numbers.resize(length, 0));
-        tally.same("numbers' length", other.run(4).0, 13);
-        tally.same("numbers' length", other.read(4).0, 13);
+    for length in other_lengths(good.numbers.len()) {
+        let other = lent.but(|lent| lent.numbers.resize(length, 0));
+        wrong(tally, "numbers' length", other, &[Lent::read, Lent::run]);
     }
-    for length in (0..20).filter(|&n| n != 8) {
-        let other = good.but(|forms| forms.result.resize(length, 0));
-        tally.same("result's length", other.read(4).0, 14);
+    for length in other_lengths(good.result.len()) {
+        let other = lent.but(|lent| lent.result.resize(length, 0));
+        wrong(tally, "result's length", other, &[Lent::read]);
     }
-    for place in (0..20).filter(|&n| n != 4) {
-        let left = vec![0xa5; place];
-        tally.same("reading's length", good.read(place), (15, left.clone()));
-        tally.same("reading's length", good.run(place), (16, left));
+    for length in other_lengths(good.reading.len()) {
+        let other = lent.but(|lent| lent.reading.resize(length, 0xa5));
+        wrong(tally, "reading's length", other, &[Lent::read, Lent::run]);
     }
 }
 
-fn zeros(tally: &mut Tally, good: &Forms, other: u8) {
+/// "An input record cut short": 2, in its turn.
+fn inputs_lengths(tally: &mut Tally, good: &Lent) {
+    for length in other_lengths(good.inputs.len()) {
+        let other = good.but(|lent| lent.inputs.resize(length, 0));
+        answers(tally, "inputs' length", other.open(), 2);
+        answers(tally, "inputs' length", other.run(), 2);
+    }
+}
+
+fn zeros(tally: &mut Tally, good: &Lent, other: u8) {
     for at in 0..16 {
-        let inputs = good.but(|forms| forms.inputs[4 * at + 1] = other);
-        tally.same("an input's zero", inputs.run(4).0, 2);
-        tally.same("an input's zero", inputs.open(74), (2, true));
-        let session = good.but(|forms| forms.session[4 * at + 1] = other);
-        tally.same("an input's zero", session.fits(), 3);
+        let inputs = good.but(|lent| lent.inputs[4 * at + 1] = other);
+        answers(tally, "an input's zero", inputs.open(), 2);
+        answers(tally, "an input's zero", inputs.run(), 2);
+        let session = good.but(|lent| lent.session[4 * at + 1] = other);
+        misfit(tally, "an input's zero", &session);
     }
-    let session = good.but(|forms| forms.session[73] = other);
-    tally.same("session's zero", session.fits(), 3);
-    let result = good.but(|forms| forms.result[7] = other);
-    tally.same("result's zero", result.read(4).0, 14);
+    let session = good.but(|lent| lent.session[73] = other);
+    misfit(tally, "session's zero", &session);
+    let result = good.but(|lent| lent.result[7] = other);
+    answers(tally, "result's zero", result.read(), 14);
 }
 
-fn marks(tally: &mut Tally, good: &Forms, other: u8) {
-    let session = good.but(|forms| forms.session[72] = other);
-    let expected = if other == 1 { 0 } else { 3 };
-    tally.same("session's mark", session.fits(), expected);
-    let result = good.but(|forms| forms.result[6] = other);
-    let expected = if other == 1 { 0 } else { 14 };
-    tally.same("result's mark", result.read(4).0, expected);
+fn marks(tally: &mut Tally, good: &Lent, other: u8) {
+    let session = good.but(|lent| lent.session[72] = other);
+    let result = good.but(|lent| lent.result[6] = other);
+    if other == 1 {
+        answers(tally, "session's mark", session.fits(), 0);
+        answers(tally, "result's mark", result.read(), 0);
+    } else {
+        misfit(tally, "session's mark", &session);
+        answers(tally, "result's mark", result.read(), 14);
+    }
+}
+
+fn misfit(tally: &mut Tally, what: &str, session: &Lent) {
+    answers(tally, what, session.fits(), 3);
+    answers(tally, what, session.evaluate(), 3);
+    answers(tally, what, session.read(), 3);
+}
+
+/// What stands in a form is refused in the operation's order of tests.
+fn orders(tally: &mut Tally, good: &Lent) {
+    let all = good.spoiled();
+    answers(tally, "open: 1 first", all.open(), 1);
+    let sized = all.but(|lent| lent.table.clone_from(&good.table));
+    answers(tally, "open: then 2", sized.open(), 2);
+
+    answers(tally, "evaluate: 3 first", all.evaluate(), 3);
+    let fitting = sized.but(|lent| lent.session.clone_from(&good.session));
+    answers(tally, "evaluate: then 4", fitting.evaluate(), 4);
+
+    answers(tally, "read: 3 first", all.read(), 3);
+    let unfitting = fitting.but(|lent| lent.table[0] = 9);
+    answers(tally, "read: 3 of the table", unfitting.read(), 3);
+    answers(tally, "read: then 13", fitting.read(), 13);
+    let numbered = fitting.but(|lent| lent.numbers.clone_from(&good.numbers));
+    answers(tally, "read: then 14", numbered.read(), 14);
+    let formed = numbered.but(|lent| lent.result.clone_from(&good.result));
+    answers(tally, "read: then 15", formed.read(), 15);
+
+    answers(tally, "run: 2 first", all.run(), 2);
+    let taken = all.but(|lent| lent.inputs.clone_from(&good.inputs));
+    answers(tally, "run: then 13", taken.run(), 13);
+    let numbered = taken.but(|lent| lent.numbers.clone_from(&good.numbers));
+    answers(tally, "run: then 4", numbered.run(), 4);
+    let ruled = numbered.but(|lent| lent.rule.clone_from(&good.rule));
+    answers(tally, "run: then 16", ruled.run(), 16);
 }

@@ -1,13 +1,19 @@
 //! Compares the desk's exports and the printing program with the second evaluator, byte for byte, and the lines of the
-//! library's examples with those wanted. `figures` takes times instead, and tries an evaluation in 1 MiB of stack; `bench`,
-//! `speed` and `stack` with a number of KiB are its parts.
+//! library's examples with those wanted. `faults` tries whether faults in the second evaluator are noticed by the trials at
+//! the limits; `limits` with the name of a group makes those of the group alone. `figures` takes times, and tries an
+//! evaluation in 1 MiB of stack; `bench`, `speed` and `stack` with a number of KiB are its parts.
 
 mod bench;
+mod choices;
 mod compare;
 mod desk;
 mod evaluations;
 mod examples;
+mod faults;
 mod form_trials;
+mod limits;
+mod made;
+mod needs;
 mod prints;
 mod rule_trials;
 mod rules;
@@ -16,8 +22,11 @@ mod session_trials;
 mod speed;
 mod stack;
 mod tally;
+mod tree;
 mod trials;
 mod vectors;
+
+use tally::Tally;
 
 fn main() {
     let words: Vec<String> = std::env::args().skip(1).collect();
@@ -30,11 +39,18 @@ fn main() {
         ["bench"] => return bench::run(),
         ["speed"] => return speed::run(),
         ["stack", kibibytes] => return stack::run(kibibytes.parse().expect("a number")),
+        ["faults"] => return faults::run(),
+        ["limits", group] => return tell(&limits::group(group).expect("a group of limits")),
         _ => {}
     }
     let mut tally = trials::all();
     examples::all(&mut tally);
     prints::all(&mut tally);
+    tell(&tally);
+}
+
+/// Fails where there are differences.
+fn tell(tally: &Tally) {
     println!(
         "trials: {} comparisons, {} differences",
         tally.comparisons, tally.differences

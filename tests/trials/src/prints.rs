@@ -32,9 +32,12 @@ pub fn all(tally: &mut Tally) {
     }
 }
 
-fn compare(tally: &mut Tally, bytes: &[u8]) {
+/// What the program writes.
+pub fn compare(tally: &mut Tally, bytes: &[u8]) -> String {
     let what = format!("print of {} bytes", bytes.len());
-    tally.same(&what, printed(bytes), print(bytes));
+    let lines = printed(bytes);
+    tally.same(&what, &lines, &print(bytes));
+    lines
 }
 
 /// What the program writes for its input.

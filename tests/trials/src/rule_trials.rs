@@ -1,6 +1,7 @@
 //! Tests 4 to 7: sizes, places, random rules and damaged ones.
 
-use crate::compare::{compare_rule, compare_run, FALSE};
+use crate::compare::{compare_rule, compare_run};
+use crate::made::FALSE;
 use crate::rules::long_rule;
 use crate::run_trials::{ALLOWANCES, STORES};
 use crate::tally::Tally;

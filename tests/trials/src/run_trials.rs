@@ -1,6 +1,7 @@
 //! Plain runs, in stores and with allowances of many sizes.
 
-use crate::compare::{compare_run, FALSE};
+use crate::compare::compare_run;
+use crate::made::FALSE;
 use crate::rules::self_application;
 use crate::tally::Tally;
 use second::dice::Dice;

@@ -1,12 +1,10 @@
 //! Sessions of the second evaluator, whole and damaged: test 3 and readings.
 
-use crate::compare::{compare_fits, compare_read, result_of, FALSE};
+use crate::compare::{compare_fits, compare_read, result_of};
+use crate::made::{FALSE, FREE_TRUTH, FREE_WORD};
 use crate::tally::Tally;
 use second::dice::{record, rule, Dice};
 use second::{evaluate, open, Answer, Input, ResultOf, Session};
-
-const FREE_TRUTH: Input = Input { kind: 2, value: 0 };
-const FREE_WORD: Input = Input { kind: 3, value: 0 };
 
 pub fn all(tally: &mut Tally) {
     sessions(tally);

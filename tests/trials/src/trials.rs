@@ -2,7 +2,7 @@
 
 use crate::compare::compare_open;
 use crate::tally::Tally;
-use crate::{evaluations, form_trials, rule_trials, run_trials, session_trials, vectors};
+use crate::{evaluations, form_trials, limits, rule_trials, run_trials, session_trials, vectors};
 use second::dice::Dice;
 use second::Input;
 
@@ -15,6 +15,7 @@ pub fn all() -> Tally {
     form_trials::all(&mut tally);
     evaluations::all(&mut tally);
     vectors::all(&mut tally);
+    limits::all(&mut tally);
     for (operation, answers) in ANSWERS {
         for &answer in answers {
             tally.require(operation, answer);
@@ -31,9 +32,9 @@ const ANSWERS: [(&str, &[u8]); 6] = [
     ("evaluate", &[0, 3, 4, 5, 6, 7, 8, 9, 10, 11, 12]),
     (
         "run",
-        &[2, 4, 5, 6, 7, 8, 12, 13, 16, 100, 101, 102, 103, 104],
+        &[2, 4, 5, 6, 7, 8, 12, 13, 16, 101, 102, 107, 108, 109],
     ),
-    ("read", &[3, 13, 14, 15, 100, 101, 102, 103, 104]),
+    ("read", &[3, 13, 14, 15, 101, 102, 107, 108, 109]),
 ];
 
 fn openings(tally: &mut Tally) {

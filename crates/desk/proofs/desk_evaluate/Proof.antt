@@ -1,61 +1,29 @@
 -- `desk::desk_evaluate` meets its contract: each test in its order. Assumes nothing.
 use borrow.Author.Needs.{needs}
-use Rattle.desk.proofs.Answers.{evaluate-session, session-long, evaluate-place, evaluate-whole}
+use Rattle.desk.proofs.Answers.{evaluate-length, evaluate-place, evaluate-session, evaluate-refused, evaluate-accepted}
 use Rattle.desk.proofs.desk_evaluate.Statement.{statement}
 use Rattle.desk.proofs.desk_evaluate.Tie as tie
 
-session-formed-requires : tie.Need-session-formed-requires
-session-formed-requires c κs = search needs
+returns-4 : tie.Need-returns-4
+returns-4 c =
+    let entered = c .before .before .before .before .before .before .before in
+    let formed = entered .before .before .before .before in
+    let sized = formed .before .before .before in
+    evaluate-refused _ _ _ _ _ (sized .before .if1 .left) (sized .if2 .left) (formed .before .session-formed .ensures) (formed .if3 .taken) (entered .before .before .session-in .ensures) (entered .enter-once .ensures)
+    (c .before .before .before .put-answer .ensures) (c .if4 .taken)
 
-same-length : tie.Need-same-length
-same-length c = search needs
-
-returns : tie.Need-returns
-returns c = search (needs, evaluate-session)
-
-same-length-2 : tie.Need-same-length-2
-same-length-2 c = search needs
-
-returns-2 : tie.Need-returns-2
-returns-2 c = search (needs, evaluate-place)
-
-session-in-requires : tie.Need-session-in-requires
-session-in-requires c κs = search needs
-
-evaluate-requires : tie.Need-evaluate-requires
-evaluate-requires c κs = search needs
-
-evaluated-requires : tie.Need-evaluated-requires
-evaluated-requires c κs = (search session-long, search needs)
-
-same-length-3 : tie.Need-same-length-3
-same-length-3 c = search needs
-
-same-length-4 : tie.Need-same-length-4
-same-length-4 c = search needs
-
-same-length-5 : tie.Need-same-length-5
-same-length-5 c = search needs
-
-returns-3 : tie.Need-returns-3
-returns-3 c =
-    let known = c .before .before .before .before .before .before .before .before .before .before in
-    let formed = known .before .before .before .before in
-    evaluate-whole _ _ _ _ _ (formed .before .before .session-formed .ensures) (formed .before .if1 .taken) (formed .if2 .left) (known .before .before .session-in .ensures) (known .evaluate .ensures) (c .before .before .before .before .evaluated .ensures)
+returns-5 : tie.Need-returns-5
+returns-5 c =
+    let answered = c .before .before .before .before .before .before .before .before in
+    let entered = answered .before .before .before .before in
+    let formed = entered .before .before .before .before in
+    let sized = formed .before .before .before in
+    evaluate-accepted _ _ _ _ _ (sized .before .if1 .left) (sized .if2 .left) (formed .before .session-formed .ensures) (formed .if3 .taken) (entered .before .before .session-in .ensures) (entered .enter-once .ensures)
+    (answered .put-answer .ensures) (c .before .before .before .before .before .if4 .left) (c .before .before .put-session .ensures .0) (c .before .before .put-session .ensures .1)
 
 pub desk-evaluate-spec : {M : Type 1} → statement M
 desk-evaluate-spec =
     tie.close
-    (tie.spec
-    session-formed-requires
-    same-length
-    returns
-    same-length-2
-    returns-2
-    session-in-requires
-    evaluate-requires
-    evaluated-requires
-    same-length-3
-    same-length-4
-    same-length-5
-    returns-3)
+    (tie.spec (λ c. search (needs, evaluate-length)) (λ c. search (needs, evaluate-place)) (λ c κs. search needs) (λ c. search needs)
+    (λ c. search (needs, evaluate-session)) (λ c κs. search needs) (λ c κs. search needs) (λ c κs. search needs) (λ c. search needs) (λ c. search needs)
+    (λ c. search needs) returns-4 (λ c κs. search needs) (λ c. search needs) (λ c. search needs) (λ c. search needs) returns-5)

@@ -1,4 +1,4 @@
--- `desk::read_unformed` meets its contract: each form in its order. Assumes nothing.
+-- `desk::read_unformed` meets its contract: each length, then the form. Assumes nothing.
 use borrow.Author.Needs.{needs}
 use Rattle.notation.proofs.Follow.{tests}
 use Rattle.desk.specs.Exports.{readUnformed}
@@ -6,40 +6,9 @@ use Rattle.desk.proofs.Answers.{long-so, long-not}
 use Rattle.desk.proofs.read_unformed.Statement.{statement}
 use Rattle.desk.proofs.read_unformed.Tie as tie
 
-session-formed-requires : tie.Need-session-formed-requires
-session-formed-requires c κs = search needs
-
-returns : tie.Need-returns
-unfolding readUnformed
-returns c = search tests
-
-returns-2 : tie.Need-returns-2
-unfolding readUnformed
-returns-2 c = search (tests, long-so, long-not)
-
-result-formed-requires : tie.Need-result-formed-requires
-result-formed-requires c κs = search needs
-
-returns-3 : tie.Need-returns-3
-unfolding readUnformed
-returns-3 c = search (tests, long-so, long-not)
-
-returns-4 : tie.Need-returns-4
-unfolding readUnformed
-returns-4 c = search (tests, long-so, long-not)
-
-returns-5 : tie.Need-returns-5
-unfolding readUnformed
-returns-5 c = search (tests, long-so, long-not)
-
 pub read-unformed-spec : {M : Type 1} → statement M
+unfolding readUnformed
 read-unformed-spec =
     tie.close
     (tie.spec
-    session-formed-requires
-    returns
-    returns-2
-    result-formed-requires
-    returns-3
-    returns-4
-    returns-5)
+    (λ c. search (tests, long-so, long-not)) (λ c. search (tests, long-so, long-not)) (λ c. search (tests, long-so, long-not)) (λ c. search (tests, long-so, long-not)) (λ c κs. search needs) (λ c. search (tests, long-so, long-not)) (λ c. search (tests, long-so, long-not)))

@@ -1,4 +1,4 @@
--- `desk::run_unformed` meets its contract: each form in its order. Assumes nothing.
+-- `desk::run_unformed` meets its contract: each length, then the form. Assumes nothing.
 use borrow.Author.Needs.{needs}
 use Rattle.notation.proofs.Follow.{tests}
 use Rattle.desk.specs.Exports.{runUnformed}
@@ -6,25 +6,8 @@ use Rattle.desk.proofs.Answers.{long-so, long-not}
 use Rattle.desk.proofs.run_unformed.Statement.{statement}
 use Rattle.desk.proofs.run_unformed.Tie as tie
 
-inputs-formed-requires : tie.Need-inputs-formed-requires
-inputs-formed-requires c κs = search needs
-
-returns : tie.Need-returns
-unfolding runUnformed
-returns c = search tests
-
-returns-2 : tie.Need-returns-2
-unfolding runUnformed
-returns-2 c = search (tests, long-so, long-not)
-
-returns-3 : tie.Need-returns-3
-unfolding runUnformed
-returns-3 c = search (tests, long-so, long-not)
-
-returns-4 : tie.Need-returns-4
-unfolding runUnformed
-returns-4 c = search (tests, long-so, long-not)
-
 pub run-unformed-spec : {M : Type 1} → statement M
+unfolding runUnformed
 run-unformed-spec =
-    tie.close (tie.spec inputs-formed-requires returns returns-2 returns-3 returns-4)
+    tie.close (tie.spec
+    (λ c. search (tests, long-so, long-not)) (λ c. search (tests, long-so, long-not)) (λ c κs. search needs) (λ c. search (tests, long-so, long-not)) (λ c. search (tests, long-so, long-not)))

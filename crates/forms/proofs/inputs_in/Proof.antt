@@ -19,42 +19,11 @@ abbrev μ-loop : tie.MeasureT-loop
 loop-holds : tie.Need-loop-holds Inv-loop μ-loop
 loop-holds c = (search needs, search needs, search each-start)
 
-input-in-requires : tie.Need-input-in-requires Inv-loop μ-loop
-input-in-requires c κs = search needs
-
-cast-inputs : tie.Need-cast-inputs Inv-loop μ-loop
-cast-inputs c = search needs
-
-mul-inputs : tie.Need-mul-inputs Inv-loop μ-loop
-mul-inputs c = search needs
-
-array-set-from-inputs : tie.Need-array-set-from-inputs Inv-loop μ-loop
-array-set-from-inputs c = search needs
-
-add-i : tie.Need-add-i Inv-loop μ-loop
-add-i c = search needs
-
-loop-less : tie.Need-loop-less Inv-loop μ-loop
-loop-less c = search needs
-
 loop-again : tie.Need-loop-again Inv-loop μ-loop
 loop-again c = (search needs, search needs, search (needs, each-more))
-
-returns : tie.Need-returns Inv-loop μ-loop
-returns c = search (needs, inputs-all)
 
 pub inputs-in-spec : {M : Type 1} → statement M
 inputs-in-spec =
     tie.close
-    (tie.spec
-    Inv-loop
-    μ-loop
-    loop-holds
-    input-in-requires
-    cast-inputs
-    mul-inputs
-    array-set-from-inputs
-    add-i
-    loop-less
-    loop-again
-    returns)
+    (tie.spec Inv-loop μ-loop loop-holds (λ c κs. search needs) (λ c. search needs) (λ c. search needs) (λ c. search needs) (λ c. search needs) (λ c. search needs)
+    loop-again (λ c. search (needs, inputs-all)))

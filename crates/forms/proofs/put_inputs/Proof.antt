@@ -20,29 +20,8 @@ abbrev μ-loop : tie.MeasureT-loop
 loop-holds : tie.Need-loop-holds Inv-loop μ-loop
 loop-holds c = (search needs, search needs, search (needs, inputs-none))
 
-cast-put-input : tie.Need-cast-put-input Inv-loop μ-loop
-cast-put-input c = search needs
-
-mul-put-input : tie.Need-mul-put-input Inv-loop μ-loop
-mul-put-input c = search needs
-
-array-copy-out-put-input : tie.Need-array-copy-out-put-input Inv-loop μ-loop
-array-copy-out-put-input c = search needs
-
-put-input-requires : tie.Need-put-input-requires Inv-loop μ-loop
-put-input-requires c κs = search needs
-
-add-i : tie.Need-add-i Inv-loop μ-loop
-add-i c = search needs
-
-loop-less : tie.Need-loop-less Inv-loop μ-loop
-loop-less c = search needs
-
 loop-again : tie.Need-loop-again Inv-loop μ-loop
 loop-again c = (search needs, search needs, inputs-more _ _ _ (omega arith) (c .before .before .before .before .before .before .loop .inv .2) _ (c .before .before .put-input .ensures))
-
-same-length : tie.Need-same-length Inv-loop μ-loop
-same-length c = search needs
 
 returns : tie.Need-returns Inv-loop μ-loop
 returns c = (search (needs, inputs-long), search (needs, inputs-done))
@@ -50,16 +29,5 @@ returns c = (search (needs, inputs-long), search (needs, inputs-done))
 pub put-inputs-spec : {M : Type 1} → statement M
 put-inputs-spec =
     tie.close
-    (tie.spec
-    Inv-loop
-    μ-loop
-    loop-holds
-    cast-put-input
-    mul-put-input
-    array-copy-out-put-input
-    put-input-requires
-    add-i
-    loop-less
-    loop-again
-    same-length
-    returns)
+    (tie.spec Inv-loop μ-loop loop-holds (λ c. search needs) (λ c. search needs) (λ c. search needs) (λ c κs. search needs) (λ c. search needs) (λ c. search needs)
+    loop-again (λ c. search needs) returns)

@@ -1,25 +1,14 @@
 -- `result_in` meets its contract. Assumes nothing.
 use borrow.Author.Needs.{needs}
+use Rattle.notation.proofs.Follow.{tests}
 use Rattle.forms.specs.Forms.{resultIn}
+use Rattle.forms.proofs.Taken.{result-taken}
 use Rattle.forms.proofs.result_in.Statement.{statement}
 use Rattle.forms.proofs.result_in.Tie as tie
 
-two-requires : tie.Need-two-requires
-two-requires c κs = search needs
-
-two-requires-2 : tie.Need-two-requires-2
-two-requires-2 c κs = search needs
-
-two-requires-3 : tie.Need-two-requires-3
-two-requires-3 c κs = search needs
-
-byte-requires : tie.Need-byte-requires
-byte-requires c κs = search needs
-
-returns : tie.Need-returns
-unfolding resultIn
-returns c = cc
-
 pub result-in-spec : {M : Type 1} → statement M
+unfolding resultIn
 result-in-spec =
-    tie.close (tie.spec two-requires two-requires-2 two-requires-3 byte-requires returns)
+    tie.close
+    (tie.spec (λ c κs. search needs) (λ c. search tests) (λ c κs. search needs) (λ c κs. search needs) (λ c κs. search needs) (λ c κs. search needs)
+    (λ c. search result-taken))

@@ -1,7 +1,7 @@
 -- `put_term` meets its contract. Assumes nothing.
 use borrow.Author.Needs.{needs}
 use Rattle.semantics.specs.Print.{termLine}
-use Rattle.print.specs.Text.{lineText}
+use Rattle.print.specs.Written.{lineText}
 use Rattle.print.proofs.put_term.Statement.{statement}
 use Rattle.print.proofs.put_term.Tie as tie
 

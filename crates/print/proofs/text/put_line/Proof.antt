@@ -1,8 +1,0 @@
--- `text::put_line` meets its contract. Assumes nothing.
-use borrow.Author.Needs.{needs}
-use Rattle.print.proofs.Adding.{both-added}
-use Rattle.print.proofs.text.put_line.Statement.{statement}
-use Rattle.print.proofs.text.put_line.Tie as tie
-
-pub put-line-spec : {M : Type 1} → statement M
-put-line-spec = tie.close (tie.spec (λ c κs. search needs) (λ c κs. search needs) (λ c. search needs) (λ c. search both-added))

@@ -1,0 +1,66 @@
+//! Both sides of every limit in document 01, and every order of two tests or steps that its text fixes. A line over a
+//! trial has the sentence that it tries. `tests/second/faults` has for each group the faults that it must notice.
+
+mod acceptances;
+mod depths;
+mod every_kind;
+mod fitting;
+mod leaves;
+mod making;
+mod openings;
+mod operators;
+mod orders;
+mod prints;
+mod readings;
+mod rule_records;
+mod stores;
+mod terms;
+
+use crate::compare::compare_fits;
+use crate::evaluations::Pair;
+use crate::made::Made;
+use crate::tally::Tally;
+
+type Group = (&'static str, fn(&mut Tally));
+
+const GROUPS: [Group; 13] = [
+    ("openings", openings::all),
+    ("rule_records", rule_records::all),
+    ("fitting", fitting::all),
+    ("terms", terms::all),
+    ("acceptances", acceptances::all),
+    ("leaves", leaves::all),
+    ("depths", depths::all),
+    ("making", making::all),
+    ("operators", operators::all),
+    ("readings", readings::all),
+    ("stores", stores::all),
+    ("orders", orders::all),
+    ("prints", prints::all),
+];
+
+pub fn all(tally: &mut Tally) {
+    for (_, group) in GROUPS {
+        group(tally);
+    }
+}
+
+pub fn groups() -> impl Iterator<Item = &'static str> {
+    GROUPS.into_iter().map(|(name, _)| name)
+}
+
+/// Nothing where there is no such group.
+pub fn group(name: &str) -> Option<Tally> {
+    let (_, group) = GROUPS.iter().find(|(other, _)| *other == name)?;
+    let mut tally = Tally::default();
+    group(&mut tally);
+    Some(tally)
+}
+
+fn fits(tally: &mut Tally, made: &Made) -> u8 {
+    compare_fits(tally, &made.session, &made.table)
+}
+
+fn evaluate(tally: &mut Tally, made: &Made, rule: &[u8], allowance: u16) -> u8 {
+    Pair::of(made.session, made.table.clone()).refusal(tally, rule, allowance)
+}
