@@ -17,6 +17,10 @@ unfoldable pub recordAt : List ℕ → ℕ → Record
 recordAt s i =
     record { kind = getD s (8 * i) 0; op = getD s (8 * i + 1) 0; p = pairAt s (8 * i + 2); q = pairAt s (8 * i + 4); r = pairAt s (8 * i + 6) }
 
+-- the word of the bytes at a position, the low half first
+abbrev pub wordAt : List ℕ → ℕ → ℕ
+wordAt s i = joinOf (pairAt s i) (pairAt s (i + 2))
+
 -- "op 2 the word p": the word of a datum
 abbrev pub datumWord : Record → ℕ
 datumWord x = joinOf (x .p) (x .q)
