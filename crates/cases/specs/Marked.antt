@@ -1,10 +1,11 @@
 -- Document 01's marked cases P1 to P10, one table, and its printed case. Assumes nothing.
-use Prim.Native.Nat.{ℕ}
+use Prim.Native.Nat.{ℕ, _-_}
 use mathlib.Core.List.{List, [], _∷_, _++_}
 use lib.ListN.{replicate}
+use Rattle.words.specs.Words.{width, lastWord}
 use Rattle.semantics.specs.declared.Input.{Input}
 use Rattle.semantics.specs.Numbers.{constantTruth, constantWord, freeTruth, datumRecord, variableRecord, procedureRecord, callRecord, operatorRecord, letRecord, ifRecord, errorRecord, trueDatum, wordDatum, wordTerm, badPlace, depthSpent, mostTable}
-use Rattle.semantics.specs.Print.{Line, out, numbers, printAllowance}
+use Rattle.semantics.specs.Print.{Line, out, numbers, inputBytes, printAllowance}
 use Rattle.semantics.specs.History.{History}
 use Rattle.cases.specs.Table.{Case, case, input, bytes, call, desk, answer, reading}
 
@@ -57,11 +58,11 @@ marked =
     -- P2: as error under false
     ∷ case (reading printedDesk (firstNumber 0)) (0 ∷ errorRecord ∷ 0 ∷ [])
     -- P3: 65,535 + 1 is 0
-    ∷ case (reading (operation 1 65535 1) (firstNumber 0)) (0 ∷ wordTerm ∷ 0 ∷ [])
+    ∷ case (reading (operation 1 lastWord 1) (firstNumber 0)) (0 ∷ wordTerm ∷ 0 ∷ [])
     -- P4: leading zeros of 0 is 16
-    ∷ case (reading (operationOnOne 10 0) (firstNumber 0)) (0 ∷ wordTerm ∷ 16 ∷ [])
+    ∷ case (reading (operationOnOne 10 0) (firstNumber 0)) (0 ∷ wordTerm ∷ width ∷ [])
     -- P5: 1 shifted left by 16 is 1
-    ∷ case (reading (operation 7 1 16) (firstNumber 0)) (0 ∷ wordTerm ∷ 1 ∷ [])
+    ∷ case (reading (operation 7 1 width) (firstNumber 0)) (0 ∷ wordTerm ∷ 1 ∷ [])
     -- P6: a datum at allowance 1 is accepted
     ∷ case (answer plainDesk (call (bytes datumRecord trueDatum 0 0 0 []) 1)) (0 ∷ 1 ∷ 1 ∷ 1 ∷ 0 ∷ 1 ∷ [])
     -- P7: a let at 1 is refused, 12
@@ -78,7 +79,7 @@ marked =
 
 -- the printed case's input: the inputs, kind, zero and value each, then the rule
 unfoldable pub printedInput : List ℕ
-printedInput = (freeTruth ∷ replicate 63 0) ++ printedRule
+printedInput = (freeTruth ∷ replicate (inputBytes - 1) 0) ++ printedRule
 
 -- its first line and all six terms
 unfoldable pub printedLines : List Line

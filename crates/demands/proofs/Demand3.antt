@@ -160,7 +160,7 @@ module _ (xs : List Input) (sixteen : length xs ≡ inputCount) (good : every in
 
     module _ (taken : numbersTaken xs ns ≡ true) where
       small : Small ns (read .terms)
-      small = small-adds ns (opening-small ns xs (omega arith) taken (settingOf mostTable) (opening-begun xs sixteen good .gives)) (read .holds .adds)
+      small = small-adds ns (opening-small ns xs (omega arith) taken (settingOf mostTable) (opening-begun xs sixteen .gives)) (read .holds .adds)
 
       result-taken : resultTaken (read .terms) (read .read) ≡ true
       unfolding resultTaken if_then_else_

@@ -31,9 +31,9 @@ pub record Begun (xs : List Input) : Type 0 where
   pub gives : openingOf xs (settingOf mostTable) [] ≡ gave (opening xs .terms) (opening xs .environment) 0
   pub few : length (opening xs .terms) ≤ 34
 
-pub begun : (xs : List Input) → length xs ≡ inputCount → every inputTaken xs ≡ true → Begun xs
+pub begun : (xs : List Input) → length xs ≡ inputCount → Begun xs
 unfolding opening
-begun xs n t = go _ (openAll xs (settingOf mostTable) []) (same-opening xs (settingOf mostTable) []) (all-roomy mostTable xs t n (omega arith))
+begun xs n = go _ (openAll xs (settingOf mostTable) []) (same-opening xs (settingOf mostTable) []) (all-roomy mostTable xs n (omega arith))
   where
     go : (x m : Got ℕ) → openingOf xs (settingOf mostTable) [] ≡ m → Roomy 34 [] Link x m → Begun xs
     go x m e (roomy {us = us} {a = a} g w b q) = record { gives = rw e; few = rw e b }
@@ -70,7 +70,7 @@ module _ (xs : List Input) (sixteen : length xs ≡ inputCount) (good : every in
     {x : Session} {s : List ℕ} {ts : List Term} (h : Holds xs l x s ts) where
   pub holds-room : length ts * 8 ≤ l
   holds-room =
-      let z = sized l size in let a = z .least in let b = z .whole in let c = begun xs sixteen good .few in
+      let z = sized l size in let a = z .least in let b = z .whole in let c = begun xs sixteen .few in
       let d : length ts ≤ roomOf l = adds-within (h .adds) (omega arith) in omega arith
 
   pub holds-length : length s ≡ l

@@ -143,7 +143,7 @@ module _ (xs : List Input) (sixteen : length xs ≡ inputCount) (good : every in
   pub live-begun : (q : Result) → Live (record { session = sessionOf xs (length (opening xs .terms)); table = imageOf l (opening xs .terms); rules = []; result = q })
   unfolding runOfRules ranAll
   live-begun q =
-      let b = begun xs sixteen good in let o = opening-means {n = 0} ns xs sixteen many good (b .gives) in
+      let b = begun xs sixteen in let o = opening-means {n = 0} ns xs sixteen many (b .gives) in
       let s = starts {ns = ns} (o .fit) in
       record {
         terms = opening xs .terms;

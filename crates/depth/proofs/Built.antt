@@ -104,13 +104,13 @@ module _ (R : (A : Type 0) → Make A → Make A → Type 0) (kept : Kept R) whe
 
   kept-constant : (op w : ℕ) → Self (constantOf op w)
   unfolding noFree constantOf
-  kept-constant op w = kept-with _ _ _ (kept-if (kept .giving _) (kept .making _ refl) _)
+  kept-constant op w = kept-with _ _ _ (kept-if (kept-with _ _ _ (kept .giving _)) (kept-with _ _ _ (kept .making _ refl)) _)
 
   kept-operator-term : (op x y : ℕ) → Self (operatorTermOf op x y)
   unfolding noFree operatorTermOf
   kept-operator-term op x y =
-      kept .reading _ _ _ (λ t. kept-eq (kept-with _ _ _ (kept-eq (kept-with _ _ _ (kept-constant op _)) (kept .reading _ _ _ (λ u.
-      kept-eq (kept-with _ _ _ (kept-constant op _)) (kept .making _ refl) _ _)) _ _)) (kept .making _ refl) _ _)
+      kept .reading _ _ _ (λ t. kept-eq (kept-with _ _ _ (kept-eq (kept-with _ _ _ (kept-with _ _ _ (kept-constant op _))) (kept .reading _ _ _ (λ u.
+      kept-eq (kept-with _ _ _ (kept-with _ _ _ (kept-with _ _ _ (kept-constant op _)))) (kept .making _ refl) _ _)) _ _)) (kept .making _ refl) _ _)
 
   -- ---- the state
   kept-assumed : (x : State) (g s : ℕ) → Self (mergeAssumedOf x g s)
@@ -183,7 +183,7 @@ module _ (R : (A : Type 0) → Make A → Make A → Type 0) (kept : Kept R) whe
   -- ---- expressions that have no parts
   pub kept-datum : (op w : ℕ) (x : State) → Self (datumOf op w x)
   unfolding noFree datumOf
-  kept-datum op w x = kept-eq (kept-map _ (kept .making _ refl)) (kept .giving _) _ _
+  kept-datum op w x = kept-eq (kept-with _ _ _ (kept-map _ (kept .making _ refl))) (kept .giving _) _ _
 
   pub kept-procedure : (i e b : ℕ) (x : State) → Self (procedureOf i e b x)
   unfolding noFree procedureOf

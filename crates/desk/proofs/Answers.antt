@@ -20,7 +20,7 @@ use Rattle.semantics.specs.Fits.{fitsOf}
 use Rattle.semantics.specs.Evaluate.{evaluateOf}
 use Rattle.semantics.specs.Reading.{readOf}
 use Rattle.semantics.specs.PlainRun.{runPlainlyOf}
-use Rattle.forms.specs.Forms.{wrongLength, inputsIn, inputsFormed, numbersIn, sessionIn, sessionFormed, resultIn, sessionBytes}
+use Rattle.forms.specs.Forms.{sessionLength, answerLength, wrongLength, inputsIn, inputsFormed, numbersIn, sessionIn, sessionFormed, resultIn, pairsOf, wordsOf, sessionBytes}
 use Rattle.forms.specs.Answers.{answerValues, outcomeValues, writtenAt}
 use Rattle.desk.specs.Exports.{deskOpen, deskFits, evaluatedForm, deskEvaluate, outcomeForm, readUnformed, deskRead, runUnformed, deskRun}
 use Rattle.forms.proofs.Written.{put-whole}
@@ -37,83 +37,83 @@ module _ {A : Type 0} (x y : A) {z : A} (i j : ℕ) where
 
 -- ---- opening
 module _ (inputs table session : List ℕ) where
-  pub open-length : (length session ≡ 74 → ⊥) → (wrongLength, table, session) ≡ deskOpen inputs table session
+  pub open-length : (length session ≡ sessionLength → ⊥) → (wrongLength, table, session) ≡ deskOpen inputs table session
   unfolding deskOpen unless_then_else_
-  open-length n = rw (ne-eqb (length session) 74 n)
+  open-length n = rw (ne-eqb (length session) sessionLength n)
 
-  module _ (l : length session ≡ 74) {b : Bool} (eb : b ≡ badTableSize (length table)) where
+  module _ (l : length session ≡ sessionLength) {b : Bool} (eb : b ≡ badTableSize (length table)) where
     pub open-size : b ≡ true → (tableSize, table, session) ≡ deskOpen inputs table session
     unfolding deskOpen if_then_else_ unless_then_else_
-    open-size h = rw (eq-eqb (length session) 74 l, ← eb, h)
+    open-size h = rw (eq-eqb (length session) sessionLength l, ← eb, h)
 
     module _ (h : b ≡ false) {d : Bool} (ed : d ≡ inputsFormed inputs) where
       pub open-inputs : d ≡ false → (badInput, table, session) ≡ deskOpen inputs table session
       unfolding deskOpen if_then_else_ unless_then_else_
-      open-inputs k = rw (eq-eqb (length session) 74 l, ← eb, h, ← ed, k)
+      open-inputs k = rw (eq-eqb (length session) sessionLength l, ← eb, h, ← ed, k)
 
       module _ (k : d ≡ true) {xs : List Input} (ex : xs ≡ inputsIn inputs) {o : Opened} {t : List ℕ} (eo : (o, t) ≡ openOf xs table) where
         pub open-refused : (o .refusal ≡ 0 → ⊥) → (o .refusal, t, session) ≡ deskOpen inputs table session
         unfolding deskOpen if_then_else_ unless_then_else_ if_equals_then_else_
-        open-refused n = rw (eq-eqb (length session) 74 l, ← eb, h, ← ed, k, ← ex, ← eo, ne-eqb (o .refusal) 0 n)
+        open-refused n = rw (eq-eqb (length session) sessionLength l, ← eb, h, ← ed, k, ← ex, ← eo, ne-eqb (o .refusal) 0 n)
 
-        pub open-whole : o .refusal ≡ 0 → length (sessionBytes (o .session)) ≡ 74 → {y : List ℕ} → y ≡ sets session 0 (sessionBytes (o .session)) → (0, t, y) ≡ deskOpen inputs table session
+        pub open-whole : o .refusal ≡ 0 → length (sessionBytes (o .session)) ≡ sessionLength → {y : List ℕ} → y ≡ sets session 0 (sessionBytes (o .session)) → (0, t, y) ≡ deskOpen inputs table session
         unfolding deskOpen if_then_else_ unless_then_else_ if_equals_then_else_
         open-whole n m ey =
-            rw (eq-eqb (length session) 74 l, ← eb, h, ← ed, k, ← ex, ← eo, eq-eqb (o .refusal) 0 n, put-whole session (sessionBytes (o .session)) (l ∙ sym m) ey)
+            rw (eq-eqb (length session) sessionLength l, ← eb, h, ← ed, k, ← ex, ← eo, eq-eqb (o .refusal) 0 n, put-whole session (sessionBytes (o .session)) (l ∙ sym m) ey)
 
 -- ---- test 3
 module _ (session table : List ℕ) where
-  pub fits-length : (length session ≡ 74 → ⊥) → wrongLength ≡ deskFits session table
+  pub fits-length : (length session ≡ sessionLength → ⊥) → wrongLength ≡ deskFits session table
   unfolding deskFits unless_then_else_
-  fits-length n = rw (ne-eqb (length session) 74 n)
+  fits-length n = rw (ne-eqb (length session) sessionLength n)
 
-  module _ (l : length session ≡ 74) {b : Bool} (eb : b ≡ sessionFormed session) where
+  module _ (l : length session ≡ sessionLength) {b : Bool} (eb : b ≡ sessionFormed session) where
     pub fits-unformed : b ≡ false → misfit ≡ deskFits session table
     unfolding deskFits if_then_else_ unless_then_else_
-    fits-unformed h = rw (eq-eqb (length session) 74 l, ← eb, h)
+    fits-unformed h = rw (eq-eqb (length session) sessionLength l, ← eb, h)
 
     module _ (h : b ≡ true) {x : Session} (ex : x ≡ sessionIn session) {d : Bool} (ed : d ≡ fitsOf x table) where
       pub fits-not : d ≡ false → misfit ≡ deskFits session table
       unfolding deskFits if_then_else_ unless_then_else_
-      fits-not k = rw (eq-eqb (length session) 74 l, ← eb, h, ← ex, ← ed, k)
+      fits-not k = rw (eq-eqb (length session) sessionLength l, ← eb, h, ← ex, ← ed, k)
 
       pub fits-so : d ≡ true → 0 ≡ deskFits session table
       unfolding deskFits if_then_else_ unless_then_else_
-      fits-so k = rw (eq-eqb (length session) 74 l, ← eb, h, ← ex, ← ed, k)
+      fits-so k = rw (eq-eqb (length session) sessionLength l, ← eb, h, ← ex, ← ed, k)
 
 -- ---- evaluating
 module _ (session table rule : List ℕ) (allowance : ℕ) (answer : List ℕ) where
-  pub evaluate-length : (length session ≡ 74 → ⊥) → (wrongLength, session, table, answer) ≡ deskEvaluate session table rule allowance answer
+  pub evaluate-length : (length session ≡ sessionLength → ⊥) → (wrongLength, session, table, answer) ≡ deskEvaluate session table rule allowance answer
   unfolding deskEvaluate unless_then_else_
-  evaluate-length n = rw (ne-eqb (length session) 74 n)
+  evaluate-length n = rw (ne-eqb (length session) sessionLength n)
 
-  module _ (l : length session ≡ 74) where
-    pub evaluate-place : (length answer ≡ 10 → ⊥) → (wrongLength, session, table, answer) ≡ deskEvaluate session table rule allowance answer
+  module _ (l : length session ≡ sessionLength) where
+    pub evaluate-place : (length answer ≡ answerLength → ⊥) → (wrongLength, session, table, answer) ≡ deskEvaluate session table rule allowance answer
     unfolding deskEvaluate unless_then_else_
-    evaluate-place n = rw (eq-eqb (length session) 74 l, ne-eqb (length answer) 10 n)
+    evaluate-place n = rw (eq-eqb (length session) sessionLength l, ne-eqb (length answer) answerLength n)
 
-    module _ (m : length answer ≡ 10) {b : Bool} (eb : b ≡ sessionFormed session) where
+    module _ (m : length answer ≡ answerLength) {b : Bool} (eb : b ≡ sessionFormed session) where
       pub evaluate-session : b ≡ false → (misfit, session, table, answer) ≡ deskEvaluate session table rule allowance answer
       unfolding deskEvaluate unless_then_else_
-      evaluate-session h = rw (eq-eqb (length session) 74 l, eq-eqb (length answer) 10 m, ← eb, h)
+      evaluate-session h = rw (eq-eqb (length session) sessionLength l, eq-eqb (length answer) answerLength m, ← eb, h)
 
       module _ (h : b ≡ true) {x : Session} (ex : x ≡ sessionIn session) {e : Evaluated} {t : List ℕ} (ee : (e, t) ≡ evaluateOf rule allowance x table) where
         evaluate-on : deskEvaluate session table rule allowance answer ≡ evaluatedForm (e, t) session answer
         unfolding deskEvaluate unless_then_else_
-        evaluate-on = rw (eq-eqb (length session) 74 l, eq-eqb (length answer) 10 m, ← eb, h, ← ex, ← ee)
+        evaluate-on = rw (eq-eqb (length session) sessionLength l, eq-eqb (length answer) answerLength m, ← eb, h, ← ex, ← ee)
 
-        module _ {k : ℕ} {z : List ℕ} (ek : (k, z) ≡ writtenAt (answerValues (e .answer)) answer) where
+        module _ {k : ℕ} {z : List ℕ} (ek : (k, z) ≡ writtenAt pairsOf (answerValues (e .answer)) answer) where
           pub evaluate-refused : (k ≡ 0 → ⊥) → (k, session, t, z) ≡ deskEvaluate session table rule allowance answer
           unfolding evaluatedForm with if_equals_then_else_
           evaluate-refused n = rw (evaluate-on, ← ek, ne-eqb k 0 n)
 
-          pub evaluate-accepted : k ≡ 0 → length (sessionBytes (e .session)) ≡ 74 → {y : List ℕ} → y ≡ sets session 0 (sessionBytes (e .session))
+          pub evaluate-accepted : k ≡ 0 → length (sessionBytes (e .session)) ≡ sessionLength → {y : List ℕ} → y ≡ sets session 0 (sessionBytes (e .session))
               → (0, y, t, z) ≡ deskEvaluate session table rule allowance answer
           unfolding evaluatedForm with if_equals_then_else_
           evaluate-accepted n i ey = rw (evaluate-on, ← ek, n, put-whole session (sessionBytes (e .session)) (l ∙ sym i) ey)
 
 -- ---- reading and running
-told : (p : Outcome × List ℕ) (reading : List ℕ) {o : Outcome} {y : List ℕ} → (o, y) ≡ p → {a : ℕ} {z : List ℕ} → (a, z) ≡ writtenAt (outcomeValues o) reading → (a, y, z) ≡ outcomeForm p reading
+told : (p : Outcome × List ℕ) (reading : List ℕ) {o : Outcome} {y : List ℕ} → (o, y) ≡ p → {a : ℕ} {z : List ℕ} → (a, z) ≡ writtenAt wordsOf (outcomeValues o) reading → (a, y, z) ≡ outcomeForm p reading
 unfolding outcomeForm with
 told p reading ep ea = rw (← ep, ← ea)
 
@@ -124,7 +124,7 @@ module _ (session table numbers result work reading : List ℕ) {k : ℕ} (ek : 
 
   module _ (h : k ≡ 0) where
     module _ {x : Session} (ex : x ≡ sessionIn session) {ns : List ℕ} (en : ns ≡ numbersIn numbers) {r : Result} (er : r ≡ resultIn result) where
-      pub read-whole : {o : Outcome} {y : List ℕ} → (o, y) ≡ readOf x table ns r work → {a : ℕ} {z : List ℕ} → (a, z) ≡ writtenAt (outcomeValues o) reading
+      pub read-whole : {o : Outcome} {y : List ℕ} → (o, y) ≡ readOf x table ns r work → {a : ℕ} {z : List ℕ} → (a, z) ≡ writtenAt wordsOf (outcomeValues o) reading
           → (a, y, z) ≡ deskRead session table numbers result work reading
       unfolding deskRead with if_equals_then_else_
       read-whole eo ea = rw (← ek, eq-eqb k 0 h, ← ex, ← en, ← er) (told _ reading eo ea)
@@ -136,7 +136,7 @@ module _ (inputs numbers rule : List ℕ) (allowance : ℕ) (store reading : Lis
 
   module _ (h : k ≡ 0) where
     module _ {xs : List Input} (ex : xs ≡ inputsIn inputs) {ns : List ℕ} (en : ns ≡ numbersIn numbers) where
-      pub run-whole : {o : Outcome} {y : List ℕ} → (o, y) ≡ runPlainlyOf xs ns rule allowance store → {a : ℕ} {z : List ℕ} → (a, z) ≡ writtenAt (outcomeValues o) reading
+      pub run-whole : {o : Outcome} {y : List ℕ} → (o, y) ≡ runPlainlyOf xs ns rule allowance store → {a : ℕ} {z : List ℕ} → (a, z) ≡ writtenAt wordsOf (outcomeValues o) reading
           → (a, y, z) ≡ deskRun inputs numbers rule allowance store reading
       unfolding deskRun with if_equals_then_else_
       run-whole eo ea = rw (← ek, eq-eqb k 0 h, ← ex, ← en) (told _ reading eo ea)

@@ -16,7 +16,7 @@ use Rattle.semantics.specs.Fits.{fitsOf}
 use Rattle.semantics.specs.Evaluate.{evaluateOf}
 use Rattle.semantics.specs.Reading.{readOf}
 use Rattle.semantics.specs.PlainRun.{runPlainlyOf}
-use Rattle.forms.specs.Forms.{sessionLength, numbersLength, resultLength, answerLength, readingLength, wrongLength, inputsIn, inputsFormed, numbersIn, sessionIn, sessionFormed, resultIn, sessionBytes}
+use Rattle.forms.specs.Forms.{sessionLength, numbersLength, resultLength, answerLength, readingLength, wrongLength, inputsIn, inputsFormed, numbersIn, sessionIn, sessionFormed, resultIn, pairsOf, wordsOf, sessionBytes}
 use Rattle.forms.specs.Answers.{answerValues, outcomeValues, writtenAt}
 
 -- ---- desk_open: the answer, the table and the session's place then
@@ -46,7 +46,7 @@ deskFits session table =
 -- an answer that is no refusal advances the session
 unfoldable pub evaluatedForm : Evaluated × List ℕ → List ℕ → List ℕ → ℕ × List ℕ × List ℕ × List ℕ
 evaluatedForm e session answer =
-    with (writtenAt (answerValues (e .0 .answer)) answer) λ w.
+    with (writtenAt pairsOf (answerValues (e .0 .answer)) answer) λ w.
     (w .0, (if w .0 equals 0 then sessionBytes (e .0 .session) else session), e .1, w .1)
 
 -- 255 of the session and of the answer's place; then Evaluate's own tests, of which 3, the first, refuses a session that is not of its form too
@@ -59,7 +59,7 @@ deskEvaluate session table rule allowance answer =
 
 -- ---- what was read or run: the answer, the work list or the store, and the reading's place then
 unfoldable pub outcomeForm : Outcome × List ℕ → List ℕ → ℕ × List ℕ × List ℕ
-outcomeForm o reading = with (writtenAt (outcomeValues (o .0)) reading) λ w. (w .0, o .1, w .1)
+outcomeForm o reading = with (writtenAt wordsOf (outcomeValues (o .0)) reading) λ w. (w .0, o .1, w .1)
 
 -- refused by the number k: the work list or the store is zero, and the reading's place as it was
 abbrev pub unread : ℕ → List ℕ → List ℕ → ℕ × List ℕ × List ℕ

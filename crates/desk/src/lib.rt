@@ -1,15 +1,16 @@
 // The desk's library: the proved operations for callers in other languages, over numbers and byte slices. Each answer
-// is 0 or the number of a refusal. Numbers of two bytes have the low one first.
-//   inputs    64 bytes: 16 times a kind, a zero and a value of two bytes
+// is 0 or the number of a refusal. Numbers of two bytes have the low one first; so have words, which take two.
+//   inputs    64 bytes: 16 times a kind, a zero and a word
 //   session   74 bytes: the inputs, then count, S, T and accepted rules, two bytes each, the halted mark and a zero
-//   numbers   32 bytes: 16 times two bytes
+//   numbers   32 bytes: 16 words
 //   result     8 bytes: S, T and the value, two bytes each, the halted mark and a zero
 //   answer    10 bytes: S, T, the value (0 of a halt), the halted mark and the depth, two bytes each
-//   reading    4 bytes: 1 a truth, 2 a word, 7 a procedure, 8 an abort or 9 an error, and its number, two bytes each
+//   reading    4 bytes: 1 a truth, 2 a word, 7 a procedure, 8 an abort or 9 an error, and its number, each as a word
 // A form of another length than its own is refused by 255 before anything else; inputs of another length, and what stands
 // in a form (a pad byte that is not zero, a mark over 1), by the operation's own number in its order of tests: inputs by
 // 2, a session by 3, a result by 14. A refusal leaves what is lent as it was, but for the work list and the store, which
 // are zero on every return. No public function has a `requires`.
+use reader::Place;
 use semantics::numbers;
 ghost use mathlib.Core.Path.{_≡_};
 ghost use Rattle.semantics.specs.Rules.{ruleRefusalOf};
@@ -124,7 +125,7 @@ pub extern "C" fn desk_read(
     table: &[u8],
     numbers: &[u8],
     result: &[u8],
-    work: &mut [u32],
+    work: &mut [Place],
     reading: &mut [u8],
 ) -> u8
     ensures { λ r. ⌜ (r, now (work .exit), now (reading .exit)) ≡ deskRead (now (session .entry)) (now (table .entry)) (now (numbers .entry)) (now (result .entry)) (now (work .entry)) (now (reading .entry)) ⌝ }

@@ -12,6 +12,7 @@ use states::Standing;
 ghost use mathlib.Core.Path.{_≡_};
 ghost use mathlib.Core.List.{[], _∷_};
 ghost use Prim.Native.Nat.{_≤_};
+ghost use Rattle.semantics.specs.Numbers.{leafLimit};
 ghost use Rattle.semantics.specs.Merge.{mergeOf};
 ghost use Rattle.semantics.specs.Evaluation.{underOf, letOf, forkOf, branchesOf, bothOf, ifOf, applyOf, targetsOf, callOf, expressionOf, liveOf, evalOf};
 ghost use Rattle.terms.specs.Gives.{from, Gives, Within};
@@ -102,7 +103,7 @@ fn expression(
 {
     let k = x.kind;
     match k {
-        numbers::DATUM_RECORD => expressions::datum(table, count, x.op, x.p, y),
+        numbers::DATUM_RECORD => expressions::datum(table, count, x, y),
         numbers::VARIABLE_RECORD => expressions::variable(table, count, x.p, env, y),
         numbers::PROCEDURE_RECORD => expressions::procedure(table, count, i, env, before, y),
         numbers::CALL_RECORD => {
@@ -340,7 +341,7 @@ fn branches(
 fn merge_both(table: &mut [u8], count: u16, x: State, a: Branch, b: Branch) -> merge::Merged
     ensures { λ r. ⌜ Gives (mergeOf x (a ∷ b ∷ [])) (now (table .entry)) count (r .refusal) (r .count) 0 (r .result) (now (table .exit)) ⌝ }
 {
-    let mut list = [merge::NO_BRANCH; 64];
+    let mut list = [merge::NO_BRANCH; numbers::LEAF_LIMIT];
     list[0] = a;
     list[1] = b;
     merge::merge(table, count, x, list, 2)
@@ -381,17 +382,17 @@ fn targets(
     table: &mut [u8],
     rule: &[u8],
     d: u16,
-    leaves: [Leaf; 64],
+    leaves: [Leaf; numbers::LEAF_LIMIT],
     n: usize,
     arg: u16,
     x: State,
     count: u16,
     before: u16,
 ) -> Out
-    requires { ⌜ n ≤ 64 ⌝ }
+    requires { ⌜ n ≤ leafLimit ⌝ }
     ensures { λ r. ⌜ Within d (targetsOf (evalOf (now (rule .entry)) before d) (now (rule .entry)) arg x (from noLeaf leaves 0 n)) (now (table .entry)) count (r .refusal) (r .count) (r .used) (r .result) (now (table .exit)) ⌝ }
 {
-    let mut list = [merge::NO_BRANCH; 64];
+    let mut list = [merge::NO_BRANCH; numbers::LEAF_LIMIT];
     let mut have: usize = 0;
     let mut used: u16 = 0;
     let mut c = count;

@@ -1,5 +1,6 @@
 // The expressions that run no part: data, variables, procedures, operators, abort and error. Each function promises
 // what its definition gives on all arguments. None has a `requires`.
+use semantics::Record;
 use semantics::Result;
 use semantics::State;
 use semantics::Term;
@@ -8,6 +9,7 @@ use states::Standing;
 use terms::Made;
 ghost use mathlib.Core.Path.{_≡_};
 ghost use Prim.Native.Nat.{max};
+ghost use Rattle.semantics.specs.Records.{datumWord};
 ghost use Rattle.semantics.specs.Terms.{termsIn};
 ghost use Rattle.semantics.specs.Steps.{give, reads};
 ghost use Rattle.semantics.specs.States.{outOf, haltOf};
@@ -89,27 +91,17 @@ pub fn variable(table: &[u8], count: u16, p: u16, env: u16, x: State) -> Out
 }
 
 // A word datum; else a truth, whose op is the number of the term false or true.
-pub fn datum(table: &mut [u8], count: u16, op: u8, w: u16, x: State) -> Out
-    ensures { λ r. ⌜ Within 0 (datumOf op w x) (now (table .entry)) count (r .refusal) (r .count) (r .used) (r .result) (now (table .exit)) ⌝ }
+pub fn datum(table: &mut [u8], count: u16, x: Record, y: State) -> Out
+    ensures { λ r. ⌜ Within 0 (datumOf (x .op) (datumWord x) y) (now (table .entry)) count (r .refusal) (r .count) (r .used) (r .result) (now (table .exit)) ⌝ }
 {
-    if op == numbers::WORD_DATUM {
-        let m = terms::make(
-            table,
-            count,
-            Term {
-                kind: numbers::WORD_TERM,
-                op: 0,
-                a: w,
-                b: 0,
-                c: 0,
-            },
-        );
+    if x.op == numbers::WORD_DATUM {
+        let m = terms::make(table, count, terms::word_term(records::datum_word(x)));
         return Out {
             refusal: m.refusal,
             count: m.count,
             used: 0,
             result: Result {
-                state: x,
+                state: y,
                 value: m.number,
                 halted: false,
             },
@@ -120,8 +112,8 @@ pub fn datum(table: &mut [u8], count: u16, op: u8, w: u16, x: State) -> Out
         count: count,
         used: 0,
         result: Result {
-            state: x,
-            value: op as u16,
+            state: y,
+            value: x.op as u16,
             halted: false,
         },
     }

@@ -3,6 +3,7 @@
 use semantics::Term;
 use semantics::numbers;
 use terms::Made;
+use words::Word;
 ghost use Rattle.semantics.specs.Factory.{notOf, andOf, orOf, impliesOf, choiceOf, truthOf, isWordOf, isProcedureOf, constantOf, operatorTermOf};
 ghost use Rattle.terms.specs.Gives.{Gives};
 
@@ -286,27 +287,17 @@ pub fn is_procedure(table: &mut [u8], count: u16, x: u16) -> Made
 }
 
 // What an operator gives, worked out: a truth has the number of the term false or true.
-fn constant(table: &mut [u8], count: u16, op: u8, w: u16) -> Made
+fn constant(table: &mut [u8], count: u16, op: u8, w: Word) -> Made
     ensures { λ r. ⌜ Gives (constantOf op w) (now (table .entry)) count (r .refusal) (r .count) 0 (r .number) (now (table .exit)) ⌝ }
 {
     if operators::gives_truth(op) {
         return Made {
             refusal: 0,
             count: count,
-            number: w,
+            number: terms::truth_number(w),
         };
     }
-    terms::make(
-        table,
-        count,
-        Term {
-            kind: numbers::WORD_TERM,
-            op: 0,
-            a: w,
-            b: 0,
-            c: 0,
-        },
-    )
+    terms::make(table, count, terms::word_term(w))
 }
 
 // The term of an operator 1 to 12, worked out on word constants.
@@ -316,11 +307,16 @@ pub fn operator(table: &mut [u8], count: u16, op: u8, x: u16, y: u16) -> Made
     let t = terms::term(table, count, x);
     if t.kind == numbers::WORD_TERM {
         if operators::operands(op) == 1 {
-            return constant(table, count, op, operators::operate(op, t.a, 0));
+            return constant(table, count, op, operators::operate(op, terms::word(t), 0));
         }
         let u = terms::term(table, count, y);
         if u.kind == numbers::WORD_TERM {
-            return constant(table, count, op, operators::operate(op, t.a, u.a));
+            return constant(
+                table,
+                count,
+                op,
+                operators::operate(op, terms::word(t), terms::word(u)),
+            );
         }
         return terms::make(
             table,

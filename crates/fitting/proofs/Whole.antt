@@ -7,6 +7,7 @@ use lib.ListN.{length, replicate}
 use Rattle.semantics.specs.declared.Term.{Term}
 use Rattle.semantics.specs.declared.Input.{Input}
 use Rattle.semantics.specs.declared.Session.{Session}
+use Rattle.semantics.specs.Numbers.{leastTable}
 use Rattle.semantics.specs.Rules.{every}
 use Rattle.semantics.specs.Terms.{termsIn}
 use Rattle.semantics.specs.Opening.{badTableSize, inputTaken, opening}
@@ -16,11 +17,11 @@ use Rattle.opening.specs.Openings.{openAll}
 use Rattle.opening.proofs.Opened.{terms, environment}
 use Rattle.fitting.specs.Formed.{openingFits}
 
-zeros : _≡_ {A = List ℕ} (replicate 272 0) (wiped (replicate 272 0) 0)
+zeros : _≡_ {A = List ℕ} (replicate leastTable 0) (wiped (replicate leastTable 0) 0)
 unfolding wiped
 zeros = refl
 
-enough : badTableSize (length {A = ℕ} (replicate 272 0)) ≡ false
+enough : badTableSize (length {A = ℕ} (replicate leastTable 0)) ≡ false
 unfolding badTableSize
 enough = refl
 
@@ -39,9 +40,9 @@ module _ (x : Session) (s : List ℕ) {b : Bool} (eb : b ≡ badTableSize (lengt
     fits-on k o ev = rw (← eb, h, ← ed, k, ← o (sym ed ∙ k)) ev
 
 -- the opening's terms, made on 34 records of zeros
-pub fresh-terms : (xs : List Input) → length xs ≡ 16 → {r c e : ℕ} {y : List ℕ} → Gives (openAll xs) (replicate 272 0) 0 r c 0 e y → every inputTaken xs ≡ true → termsIn y c ≡ opening xs .terms
-fresh-terms xs n g t = terms xs (replicate 272 0) (replicate 272 0) zeros enough t n g
+pub fresh-terms : (xs : List Input) → length xs ≡ 16 → {r c e : ℕ} {y : List ℕ} → Gives (openAll xs) (replicate leastTable 0) 0 r c 0 e y → every inputTaken xs ≡ true → termsIn y c ≡ opening xs .terms
+fresh-terms xs n g t = terms xs (replicate leastTable 0) (replicate leastTable 0) zeros enough t n g
 
 -- and input 0's binding there
-pub fresh-environment : (xs : List Input) → length xs ≡ 16 → {r c e : ℕ} {y : List ℕ} → Gives (openAll xs) (replicate 272 0) 0 r c 0 e y → every inputTaken xs ≡ true → e ≡ opening xs .environment
-fresh-environment xs n g t = environment xs (replicate 272 0) (replicate 272 0) zeros enough t n g
+pub fresh-environment : (xs : List Input) → length xs ≡ 16 → {r c e : ℕ} {y : List ℕ} → Gives (openAll xs) (replicate leastTable 0) 0 r c 0 e y → every inputTaken xs ≡ true → e ≡ opening xs .environment
+fresh-environment xs n g t = environment xs (replicate leastTable 0) (replicate leastTable 0) zeros enough t n g

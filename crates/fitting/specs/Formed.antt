@@ -37,7 +37,7 @@ wordsLaid ts op a b = namesValue ts a && (if operandsOf op equals 1 then eqb b 0
 
 -- ---- marks: numbers that equal terms share
 
--- how many there are by a factor: a prime above every word
+-- how many there are by a factor: a prime above every field
 abbrev pub markCount : ℕ
 markCount = 65537
 

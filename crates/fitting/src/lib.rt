@@ -10,7 +10,7 @@ ghost use Prim.Native.Nat.{_-_};
 ghost use lib.Dec.{eqb};
 ghost use lib.ListN.{take, drop};
 ghost use Rattle.semantics.specs.Rules.{every};
-ghost use Rattle.semantics.specs.Terms.{termsIn, namesTruth, namesChoice, namesBinding, namesValue, operandsLaidOut, laidOut, wellFormed};
+ghost use Rattle.semantics.specs.Terms.{wordLaid, termsIn, namesTruth, namesChoice, namesBinding, namesValue, operandsLaidOut, laidOut, wellFormed};
 ghost use Rattle.semantics.specs.Opening.{inputTaken, opening};
 ghost use Rattle.semantics.specs.Fits.{sameTerms, noFree, isZero, fitsOf};
 ghost use Rattle.terms.specs.Search.{findAbove};
@@ -116,6 +116,17 @@ fn only_a(t: Term) -> bool
     if t.b == 0 { t.c == 0 } else { false }
 }
 
+// A word constant: the second field is unused where a word takes one.
+fn word_laid(t: Term) -> bool
+    ensures { λ r. ⌜ r ≡ wordLaid t ⌝ }
+{
+    if records::field(words::FIELDS, 1, t.b) {
+        t.c == 0
+    } else {
+        false
+    }
+}
+
 fn choice_laid(table: &[u8], n: u16, t: Term) -> bool
     ensures { λ r. ⌜ r ≡ choiceLaid (termsIn (now (table .entry)) n) t ⌝ }
 {
@@ -184,7 +195,7 @@ fn laid_out(table: &[u8], n: u16, accepted: u16, t: Term) -> bool
     }
     match k {
         numbers::TRUTH_TERM => if t.a < 2 { only_a(t) } else { false },
-        numbers::WORD_TERM => only_a(t),
+        numbers::WORD_TERM => word_laid(t),
         numbers::FREE_TRUTH_TERM => if t.a < numbers::INPUT_COUNT {
             only_a(t)
         } else {
@@ -202,7 +213,7 @@ fn laid_out(table: &[u8], n: u16, accepted: u16, t: Term) -> bool
     }
 }
 
-// How many marks there are by a factor: a prime above every word.
+// How many marks there are by a factor: a prime above every field.
 const MARKS: usize = 65537;
 
 // The factor of a term's first mark. Both factors were chosen by trial: few terms of a table find both marks set.
@@ -363,13 +374,13 @@ fn opening_fits(table: &[u8], fresh: &[u8], n: u16, session: Session) -> bool
 // The terms of an opening on a table of their own, of as many records as an opening can need.
 struct Fresh {
     count: u16,
-    bytes: [u8; 272],
+    bytes: [u8; numbers::LEAST_TABLE],
 }
 
 fn fresh_opening(inputs: [Input; 16]) -> Fresh
     ensures { λ r. ⌜ (every inputTaken inputs ≡ true → termsIn (r .bytes) (r .count) ≡ opening inputs .terms) ⌝ }
 {
-    let mut bytes: [u8; 272] = [0; 272];
+    let mut bytes: [u8; numbers::LEAST_TABLE] = [0; numbers::LEAST_TABLE];
     let o = opening::open_all(&mut bytes, inputs);
     Fresh {
         count: o.count,

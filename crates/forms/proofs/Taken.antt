@@ -9,13 +9,18 @@ use lib.Dec.{eqb}
 use lib.ListN.{getD, set, take, length}
 use lib.Seq.{take-all, take-suc-set}
 use borrow.Author.Tests.{eq-eqb, ne-eqb, lt-ltb, le-ltb}
+use Rattle.words.specs.Words.{wordBytes, joinOf}
 use Rattle.notation.specs.Notation.{if_then_else_}
 use Rattle.semantics.specs.declared.Input.{Input}
-use Rattle.semantics.specs.Records.{pairAt}
+use Rattle.semantics.specs.Records.{pairAt, wordAt}
 use Rattle.semantics.specs.Rules.{upTo}
-use Rattle.semantics.specs.Print.{inputAt}
+use Rattle.semantics.specs.Print.{inputSize, inputAt, inputZeroed}
 use Rattle.rules.proofs.Follow.{up-next, up-stop, up-end}
-use Rattle.forms.specs.Forms.{eachBelow, inputsIn, inputsZeroed, numbersIn, markFormed, sessionIn, resultFormed, resultIn}
+use Rattle.forms.specs.Forms.{inputsLength, eachBelow, inputsIn, inputsZeroed, numbersIn, markFormed, sessionIn, resultFormed, resultIn}
+
+-- ---- a word, of its two fields
+pub word-taken : (s : List ℕ) (i : ℕ) {l h : ℕ} → l ≡ pairAt s i → h ≡ pairAt s (i + 2) → {w : ℕ} → w ≡ joinOf l h → w ≡ wordAt s i
+word-taken s i el eh ew = ew ∙ rw (el, eh)
 
 -- ---- an array that is filled from its first place on
 
@@ -36,26 +41,23 @@ pub inputs-all : (s : List ℕ) (l : List Input) (i : ℕ) → length l ≡ 16 �
 unfolding inputsIn
 inputs-all s = each-all (inputAt s)
 
-pub numbers-all : (s l : List ℕ) (i : ℕ) → length l ≡ 16 → i ≤ 16 → 16 ≤ i → take i l ≡ eachBelow (λ j. pairAt s (2 * j)) i → l ≡ numbersIn s
+pub numbers-all : (s l : List ℕ) (i : ℕ) → length l ≡ 16 → i ≤ 16 → 16 ≤ i → take i l ≡ eachBelow (λ j. wordAt s (wordBytes * j)) i → l ≡ numbersIn s
 unfolding numbersIn
-numbers-all s = each-all (λ j. pairAt s (2 * j))
+numbers-all s = each-all (λ j. wordAt s (wordBytes * j))
 
 -- ---- the zeros after the inputs' kinds
 module _ (s : List ℕ) where
-  abbrev pub zeroAfter : ℕ → Bool
-  zeroAfter i = eqb (getD s (4 * i + 1) 0) 0
-
-  module _ (i : ℕ) {b : ℕ} (e : b ≡ getD s (4 * i + 1) 0) where
+  module _ (i : ℕ) {b : ℕ} (e : b ≡ getD s (inputSize * i + 1) 0) where
     pub zeroed-miss : i < 16 → (b ≡ 0 → ⊥) → false ≡ inputsZeroed s
     unfolding inputsZeroed
-    zeroed-miss h n = up-stop zeroAfter i 16 h (rw (← e) (ne-eqb b 0 n))
+    zeroed-miss h n = up-stop (inputZeroed s) i 16 h (rw (← e) (ne-eqb b 0 n))
 
-    pub zeroed-more : upTo i zeroAfter ≡ true → b ≡ 0 → upTo (i + 1) zeroAfter ≡ true
-    zeroed-more h z = up-next zeroAfter i h (rw (← e) (eq-eqb b 0 z))
+    pub zeroed-more : upTo i (inputZeroed s) ≡ true → b ≡ 0 → upTo (i + 1) (inputZeroed s) ≡ true
+    zeroed-more h z = up-next (inputZeroed s) i h (rw (← e) (eq-eqb b 0 z))
 
-  pub zeroed-all : (i : ℕ) → upTo i zeroAfter ≡ true → i ≤ 16 → 16 ≤ i → true ≡ inputsZeroed s
+  pub zeroed-all : (i : ℕ) → upTo i (inputZeroed s) ≡ true → i ≤ 16 → 16 ≤ i → true ≡ inputsZeroed s
   unfolding inputsZeroed
-  zeroed-all i = up-end zeroAfter i 16
+  zeroed-all i = up-end (inputZeroed s) i 16
 
 -- ---- a halted mark
 module _ (s : List ℕ) (i : ℕ) {a : ℕ} (ea : a ≡ getD s i 0) where
@@ -68,8 +70,8 @@ module _ (s : List ℕ) (i : ℕ) {a : ℕ} (ea : a ≡ getD s i 0) where
   mark-high h = rw (← ea, le-ltb a 2 h)
 
 -- ---- a session
-pub session-taken : (s : List ℕ) {xs : List Input} → xs ≡ inputsIn s → {count assumed asserted accepted : ℕ} → count ≡ pairAt s 64 → assumed ≡ pairAt s 66 → asserted ≡ pairAt s 68 → accepted ≡ pairAt s 70
-    → {m : ℕ} → m ≡ getD s 72 0 → record { inputs = xs; count = count; state = record { assumed = assumed; asserted = asserted }; halted = eqb m 1; accepted = accepted } ≡ sessionIn s
+pub session-taken : (s : List ℕ) {xs : List Input} → xs ≡ inputsIn s → {count assumed asserted accepted : ℕ} → count ≡ pairAt s inputsLength → assumed ≡ pairAt s (inputsLength + 2) → asserted ≡ pairAt s (inputsLength + 4)
+    → accepted ≡ pairAt s (inputsLength + 6) → {m : ℕ} → m ≡ getD s (inputsLength + 8) 0 → record { inputs = xs; count = count; state = record { assumed = assumed; asserted = asserted }; halted = eqb m 1; accepted = accepted } ≡ sessionIn s
 unfolding sessionIn
 session-taken s exs ec es et ea em = rw (exs, ec, es, et, ea, em)
 

@@ -6,10 +6,13 @@ use native.Mathlib.Numerals.{add-one}
 use native.Mathlib.Omega.{arith}
 use lib.ListN.{getD, set, take, length, length-append, drop-of-length-le}
 use lib.Seq.{sets, sets-eq, set-out, take-suc, take-all, length-take-le}
+use Rattle.words.specs.Words.{wordBytes, lowOf}
 use Rattle.notation.specs.Notation.{bit}
 use Rattle.semantics.specs.declared.Input.{Input}
 use Rattle.semantics.specs.declared.Session.{Session}
-use Rattle.forms.specs.Forms.{pairsOf, inputBytes, inputsBytes, sessionBytes}
+use Rattle.semantics.specs.Numbers.{inputCount}
+use Rattle.semantics.specs.Print.{inputSize}
+use Rattle.forms.specs.Forms.{inputsLength, sessionLength, pairsOf, wordBytesOf, wordsOf, inputBytes, inputsBytes, sessionBytes}
 use Rattle.forms.specs.Answers.{writtenAt}
 
 -- a store past the end of a list
@@ -39,25 +42,29 @@ put-four s i a b c d ew ex ey ez =
     let six : i + 6 ≡ suc (suc (suc (suc (suc (suc i))))) = omega arith in
     ez ∙ rw (ey, ex, ew, two, four, six)
 
--- a byte, a zero and what follows them
-pub put-tagged : (s : List ℕ) (i b : ℕ) (vs : List ℕ) {y z w : List ℕ} → y ≡ set s i b → z ≡ set y (i + 1) 0 → w ≡ sets z (i + 2) vs → w ≡ sets s i (b ∷ 0 ∷ vs)
-put-tagged s i b vs ey ez ew = let q : i + 2 ≡ suc (suc i) = omega arith in ew ∙ rw (ez, ey, add-one, q)
+-- a word, of its fields
+pub put-word : (s : List ℕ) (i w : ℕ) {l : ℕ} → l ≡ lowOf w → {y : List ℕ} → y ≡ sets s i (pairsOf (l ∷ [])) → y ≡ sets s i (wordBytesOf w)
+put-word s i w el ey = ey ∙ rw el
+
+-- a kind, what is zero after it, and a word
+pub put-input : (s : List ℕ) (i b w : ℕ) {y z t : List ℕ} → y ≡ set s i b → z ≡ set y (i + 1) 0 → t ≡ sets z (i + wordBytes) (wordBytesOf w) → t ≡ sets s i (b ∷ 0 ∷ wordBytesOf w)
+put-input s i b w ey ez et = let q : i + wordBytes ≡ suc (suc i) = omega arith in et ∙ rw (ez, ey, add-one, q)
 
 -- ---- answers
 module _ (s : List ℕ) {y z : List ℕ} where
   pub put-five : (a b c d e : ℕ) → y ≡ sets s 0 (pairsOf (a ∷ b ∷ c ∷ d ∷ [])) → z ≡ sets y 8 (pairsOf (e ∷ []))
-      → _≡_ {A = ℕ × List ℕ} (0, z) (writtenAt (0 ∷ a ∷ b ∷ c ∷ d ∷ e ∷ []) s)
+      → _≡_ {A = ℕ × List ℕ} (0, z) (writtenAt pairsOf (0 ∷ a ∷ b ∷ c ∷ d ∷ e ∷ []) s)
   put-five a b c d e ey ez = rw (ez, ey)
 
-  pub put-both : (a b : ℕ) → y ≡ sets s 0 (pairsOf (a ∷ [])) → z ≡ sets y 2 (pairsOf (b ∷ [])) → _≡_ {A = ℕ × List ℕ} (0, z) (writtenAt (0 ∷ a ∷ b ∷ []) s)
+  pub put-both : (a b : ℕ) → y ≡ sets s 0 (wordBytesOf a) → z ≡ sets y wordBytes (wordBytesOf b) → _≡_ {A = ℕ × List ℕ} (0, z) (writtenAt wordsOf (0 ∷ a ∷ b ∷ []) s)
   put-both a b ey ez = rw (ez, ey)
 
 -- an answer whose case is known
-pub put-case : {A : Type 0} (f : A → List ℕ) (s : List ℕ) {p q : A} → p ≡ q → {w : ℕ × List ℕ} → w ≡ writtenAt (f q) s → w ≡ writtenAt (f p) s
-put-case f s e g = rw e g
+pub put-case : {A : Type 0} (form : List ℕ → List ℕ) (f : A → List ℕ) (s : List ℕ) {p q : A} → p ≡ q → {w : ℕ × List ℕ} → w ≡ writtenAt form (f q) s → w ≡ writtenAt form (f p) s
+put-case form f s e g = rw e g
 
 -- ---- inputs
-inputs-length : (xs : List Input) → length (inputsBytes xs) ≡ 4 * length xs
+inputs-length : (xs : List Input) → length (inputsBytes xs) ≡ inputSize * length xs
 unfolding inputsBytes
 inputs-length [] = refl
 inputs-length (x ∷ xs) = let e = inputs-length xs in omega arith
@@ -67,7 +74,7 @@ unfolding inputsBytes
 inputs-append [] ys = refl
 inputs-append (x ∷ xs) ys = ap (λ (l : List ℕ). inputBytes x ++ l) (inputs-append xs ys)
 
-pub inputs-long : (xs : List Input) → length xs ≡ 16 → length (inputsBytes xs) ≡ 64
+pub inputs-long : (xs : List Input) → length xs ≡ inputCount → length (inputsBytes xs) ≡ inputsLength
 inputs-long xs long = inputs-length xs ∙ rw long
 
 -- the inputs before i, and input i
@@ -76,26 +83,26 @@ module _ (s₀ : List ℕ) (xs : List Input) (i : ℕ) where
   unfolding inputsBytes
   inputs-none = refl
 
-  pub inputs-more : i < length xs → {s : List ℕ} → s ≡ sets s₀ 0 (inputsBytes (take i xs)) → (d : Input) {y : List ℕ} → y ≡ sets s (4 * i) (inputBytes (getD xs i d))
+  pub inputs-more : i < length xs → {s : List ℕ} → s ≡ sets s₀ 0 (inputsBytes (take i xs)) → (d : Input) {y : List ℕ} → y ≡ sets s (inputSize * i) (inputBytes (getD xs i d))
       → y ≡ sets s₀ 0 (inputsBytes (take (i + 1) xs))
   unfolding inputsBytes
   inputs-more h es d ey =
-      let long : 4 * i ≡ 0 + length (inputsBytes (take i xs)) = rw (inputs-length, length-take-le i xs (omega arith)) (omega arith) in
+      let long : inputSize * i ≡ 0 + length (inputsBytes (take i xs)) = rw (inputs-length, length-take-le i xs (omega arith)) (omega arith) in
       let bytes : inputsBytes (take (i + 1) xs) ≡ inputsBytes (take i xs) ++ inputBytes (getD xs i d) = rw (add-one, take-suc xs i d h, inputs-append) (simp append-nil) in
-      ey ∙ rw (es, bytes) (sets-then (inputsBytes (take i xs)) (inputBytes (getD xs i d)) s₀ 0 (4 * i) long)
+      ey ∙ rw (es, bytes) (sets-then (inputsBytes (take i xs)) (inputBytes (getD xs i d)) s₀ 0 (inputSize * i) long)
 
   pub inputs-done : length xs ≡ 16 → 16 ≤ i → {s : List ℕ} → s ≡ sets s₀ 0 (inputsBytes (take i xs)) → s ≡ sets s₀ 0 (inputsBytes xs)
   inputs-done long h es = es ∙ rw (take-all i xs (omega arith))
 
 -- ---- a session
-module _ (x : Session) (long : length (inputsBytes (x .inputs)) ≡ 64) where
-  pub session-length : length (sessionBytes x) ≡ 74
+module _ (x : Session) (long : length (inputsBytes (x .inputs)) ≡ inputsLength) where
+  pub session-length : length (sessionBytes x) ≡ sessionLength
   unfolding sessionBytes
   session-length = length-append (inputsBytes (x .inputs)) _ ∙ rw long
 
-  pub put-session : (s : List ℕ) {a b c d : List ℕ} → a ≡ sets s 0 (inputsBytes (x .inputs)) → b ≡ sets a 64 (pairsOf (x .count ∷ x .state .assumed ∷ x .state .asserted ∷ x .accepted ∷ []))
-      → {h : ℕ} → h ≡ bit (x .halted) → c ≡ set b 72 h → d ≡ set c 73 0 → d ≡ sets s 0 (sessionBytes x)
+  pub put-session : (s : List ℕ) {a b c d : List ℕ} → a ≡ sets s 0 (inputsBytes (x .inputs)) → b ≡ sets a inputsLength (pairsOf (x .count ∷ x .state .assumed ∷ x .state .asserted ∷ x .accepted ∷ []))
+      → {h : ℕ} → h ≡ bit (x .halted) → c ≡ set b (inputsLength + 8) h → d ≡ set c (inputsLength + 9) 0 → d ≡ sets s 0 (sessionBytes x)
   unfolding sessionBytes
   put-session s ea eb eh ec ed =
       let rest : List ℕ = pairsOf (x .count ∷ x .state .assumed ∷ x .state .asserted ∷ x .accepted ∷ []) ++ (bit (x .halted) ∷ 0 ∷ []) in
-      ed ∙ rw (ec, eb, ea, eh) (sets-then (inputsBytes (x .inputs)) rest s 0 64 (rw long))
+      ed ∙ rw (ec, eb, ea, eh) (sets-then (inputsBytes (x .inputs)) rest s 0 inputsLength (rw long))

@@ -8,7 +8,6 @@ use Rattle.semantics.specs.declared.Answer.the-variants.{Out, Halt, Refused}
 use Rattle.semantics.specs.declared.Outcome.{Outcome}
 use Rattle.semantics.specs.declared.Outcome.the-variants.{Truth, Word, Procedure, Abort, Error, Refused as NoOutcome}
 use Rattle.semantics.specs.Numbers.{truthTerm, wordTerm, procedureTerm, abortRecord, errorRecord}
-use Rattle.forms.specs.Forms.{pairsOf}
 
 -- an evaluation's answer: 0, S, T, the value (0 of a halt), the halted mark and the depth; or the number of the refusal
 abbrev pub answerValues : Answer → List ℕ
@@ -26,8 +25,8 @@ outcomeValues Abort = 0 ∷ abortRecord ∷ 0 ∷ []
 outcomeValues Error = 0 ∷ errorRecord ∷ 0 ∷ []
 outcomeValues (NoOutcome k) = k ∷ []
 
--- what is answered, and what then stands in the place: the values after the number, two bytes each, from its beginning; a number alone
--- leaves it as it was
-abbrev pub writtenAt : List ℕ → List ℕ → ℕ × List ℕ
-writtenAt [] place = (0, place)
-writtenAt (k ∷ vs) place = (k, sets place 0 (pairsOf vs))
+-- what is answered, and what then stands in the place: the values after the number, by their form, from its beginning; a number alone
+-- leaves it as it was. An answer's values are of two bytes each, `pairsOf`, and a reading's are words, `wordsOf`.
+abbrev pub writtenAt : (List ℕ → List ℕ) → List ℕ → List ℕ → ℕ × List ℕ
+writtenAt form [] place = (0, place)
+writtenAt form (k ∷ vs) place = (k, sets place 0 (form vs))

@@ -5,24 +5,25 @@ use mathlib.Core.Bool.{Bool, false, _&&_}
 use mathlib.Core.List.{List, [], _∷_, _++_}
 use lib.Dec.{eqb, ltb}
 use lib.ListN.{getD, length}
+use Rattle.words.specs.Words.{wordBytes, lowOf}
 use Rattle.notation.specs.Notation.{bit, if_then_else_}
 use Rattle.semantics.specs.declared.Input.{Input}
 use Rattle.semantics.specs.declared.Result.{Result}
 use Rattle.semantics.specs.declared.Session.{Session}
 use Rattle.semantics.specs.Numbers.{inputCount}
-use Rattle.semantics.specs.Records.{pairAt}
+use Rattle.semantics.specs.Records.{pairAt, wordAt}
 use Rattle.semantics.specs.Rules.{upTo}
-use Rattle.semantics.specs.Print.{inputAt}
+use Rattle.semantics.specs.Print.{inputSize, inputAt, inputZeroed}
 
 -- ---- the lengths
 abbrev pub inputsLength : ℕ
-inputsLength = 64
+inputsLength = inputSize * inputCount
 
 abbrev pub sessionLength : ℕ
-sessionLength = 74
+sessionLength = inputsLength + 10
 
 abbrev pub numbersLength : ℕ
-numbersLength = 32
+numbersLength = wordBytes * inputCount
 
 abbrev pub resultLength : ℕ
 resultLength = 8
@@ -31,7 +32,7 @@ abbrev pub answerLength : ℕ
 answerLength = 10
 
 abbrev pub readingLength : ℕ
-readingLength = 4
+readingLength = 2 * wordBytes
 
 -- what the library answers where it is lent a form of another length; document 01 knows no such number
 abbrev pub wrongLength : ℕ
@@ -44,21 +45,21 @@ unfoldable pub eachBelow : {A : Type 0} → (ℕ → A) → ℕ → List A
 eachBelow f zero = []
 eachBelow f (suc n) = eachBelow f n ++ (f n ∷ [])
 
--- inputs: 16 times a kind, a zero and a value of two bytes, as the printing program reads them
+-- inputs: 16 times a kind, a zero and a word, as the printing program reads them
 unfoldable pub inputsIn : List ℕ → List Input
 inputsIn s = eachBelow (inputAt s) inputCount
 
--- the second byte of each is zero
+-- what stands between the kind and the value of each is zero
 unfoldable pub inputsZeroed : List ℕ → Bool
-inputsZeroed s = upTo inputCount λ i. eqb (getD s (4 * i + 1) 0) 0
+inputsZeroed s = upTo inputCount (inputZeroed s)
 
 -- "An input record cut short, or its second byte not zero, is refused by 2."; inputs are no longer than sixteen records either
 unfoldable pub inputsFormed : List ℕ → Bool
 inputsFormed s = eqb (length s) inputsLength && inputsZeroed s
 
--- numbers: 16 times two bytes
+-- numbers: 16 words
 unfoldable pub numbersIn : List ℕ → List ℕ
-numbersIn s = eachBelow (λ i. pairAt s (2 * i)) inputCount
+numbersIn s = eachBelow (λ i. wordAt s (wordBytes * i)) inputCount
 
 -- a halted mark: 0 or 1, and a zero after it
 unfoldable pub markFormed : List ℕ → ℕ → Bool
@@ -69,15 +70,15 @@ unfoldable pub sessionIn : List ℕ → Session
 sessionIn s =
     record {
       inputs = inputsIn s;
-      count = pairAt s 64;
-      state = record { assumed = pairAt s 66; asserted = pairAt s 68 };
-      halted = eqb (getD s 72 0) 1;
-      accepted = pairAt s 70;
+      count = pairAt s inputsLength;
+      state = record { assumed = pairAt s (inputsLength + 2); asserted = pairAt s (inputsLength + 4) };
+      halted = eqb (getD s (inputsLength + 8) 0) 1;
+      accepted = pairAt s (inputsLength + 6);
     }
 
 -- a session's zeros and its mark; test 3 refuses another one
 unfoldable pub sessionFormed : List ℕ → Bool
-sessionFormed s = inputsZeroed s && markFormed s 72
+sessionFormed s = inputsZeroed s && markFormed s (inputsLength + 8)
 
 -- result: S, T and the value, two bytes each; the halted mark: the beginning of an answer
 abbrev pub resultAt : List ℕ → Result
@@ -104,9 +105,18 @@ abbrev pub pairsOf : List ℕ → List ℕ
 pairsOf [] = []
 pairsOf (n ∷ ns) = n % 256 ∷ n / 256 ∷ pairsOf ns
 
+-- a word: the fields that it takes
+abbrev pub wordBytesOf : ℕ → List ℕ
+wordBytesOf w = pairsOf (lowOf w ∷ [])
+
+-- words, one after another
+abbrev pub wordsOf : List ℕ → List ℕ
+wordsOf [] = []
+wordsOf (w ∷ ws) = wordBytesOf w ++ wordsOf ws
+
 -- inputs, cut as above
 abbrev pub inputBytes : Input → List ℕ
-inputBytes x = x .kind ∷ 0 ∷ pairsOf (x .value ∷ [])
+inputBytes x = x .kind ∷ 0 ∷ wordBytesOf (x .value)
 
 unfoldable pub inputsBytes : List Input → List ℕ
 inputsBytes [] = []

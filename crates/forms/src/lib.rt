@@ -7,28 +7,46 @@ use semantics::Result;
 use semantics::Session;
 use semantics::State;
 use semantics::numbers;
+use words::Word;
 ghost use mathlib.Core.Path.{_≡_};
 ghost use mathlib.Core.List.{[], _∷_};
 ghost use Prim.Native.Nat.{_+_, _*_};
 ghost use lib.ListN.{length, set};
 ghost use lib.Seq.{sets};
 ghost use Rattle.notation.specs.Notation.{bit};
-ghost use Rattle.semantics.specs.Records.{pairAt};
-ghost use Rattle.semantics.specs.Print.{inputAt};
-ghost use Rattle.forms.specs.Forms.{inputsIn, inputsZeroed, inputsFormed, numbersIn, markFormed, sessionIn, sessionFormed, resultIn, pairsOf, inputBytes, inputsBytes, sessionBytes};
+ghost use Rattle.semantics.specs.Records.{pairAt, wordAt};
+ghost use Rattle.semantics.specs.Print.{inputSize, inputAt};
+ghost use Rattle.forms.specs.Forms.{inputsLength, sessionLength, inputsIn, inputsZeroed, inputsFormed, numbersIn, markFormed, sessionIn, sessionFormed, resultIn, pairsOf, wordBytesOf, wordsOf, inputBytes, inputsBytes, sessionBytes};
 ghost use Rattle.forms.specs.Answers.{answerValues, outcomeValues, writtenAt};
 
-pub const INPUTS: usize = 64;
+// The bytes of a word.
+const WORD: u16 = words::BYTES as u16;
 
-pub const SESSION: usize = 74;
+// The bytes of an input, whose value is a word and stands in the second half.
+const INPUT: u16 = 2 * WORD;
 
-pub const NUMBERS: usize = 32;
+pub const INPUTS: usize = (INPUT * numbers::INPUT_COUNT) as usize;
+
+pub const SESSION: usize = INPUTS + 10;
+
+pub const NUMBERS: usize = (WORD * numbers::INPUT_COUNT) as usize;
 
 pub const RESULT: usize = 8;
 
 pub const ANSWER: usize = 10;
 
-pub const READING: usize = 4;
+pub const READING: usize = 2 * words::BYTES;
+
+// Where a session's count, S, T, accepted rules and halted mark stand.
+const COUNT: u32 = INPUTS as u32;
+
+const ASSUMED: u32 = COUNT + 2;
+
+const ASSERTED: u32 = COUNT + 4;
+
+const ACCEPTED: u32 = COUNT + 6;
+
+const HALTED: usize = INPUTS + 8;
 
 // What the library answers where it is lent a form of another length.
 pub const WRONG_LENGTH: u8 = 255;
@@ -43,20 +61,28 @@ fn pair(low: u8, high: u8) -> u16
 }
 
 // The number of the two bytes at a position.
-fn two(s: &[u8], at: u16) -> u16
+fn two(s: &[u8], at: u32) -> u16
     ensures { λ r. ⌜ r ≡ pairAt (now (s .entry)) at ⌝ }
 {
     let i = at as usize;
     pair(records::byte(s, i), records::byte(s, i + 1))
 }
 
+// The word of the bytes at a position.
+fn word_at(s: &[u8], at: u16) -> Word
+    ensures { λ r. ⌜ r ≡ wordAt (now (s .entry)) at ⌝ }
+{
+    let i = at as u32;
+    words::join(two(s, i), two(s, i + 2))
+}
+
 fn input_in(s: &[u8], i: u8) -> Input
     ensures { λ r. ⌜ r ≡ inputAt (now (s .entry)) i ⌝ }
 {
-    let at = 4 * (i as u16);
+    let at = INPUT * (i as u16);
     Input {
         kind: records::byte(s, at as usize),
-        value: two(s, at + 2),
+        value: word_at(s, at + WORD),
     }
 }
 
@@ -72,25 +98,25 @@ pub fn inputs_in(s: &[u8]) -> [Input; 16]
     inputs
 }
 
-pub fn numbers_in(s: &[u8]) -> [u16; 16]
+pub fn numbers_in(s: &[u8]) -> [Word; 16]
     ensures { λ r. ⌜ r ≡ numbersIn (now (s .entry)) ⌝ }
 {
-    let mut numbers: [u16; 16] = [0; 16];
+    let mut numbers: [Word; 16] = [0; 16];
     let mut i: u16 = 0;
     while i < 16 {
-        numbers[i as usize] = two(s, 2 * i);
+        numbers[i as usize] = word_at(s, WORD * i);
         i += 1;
     }
     numbers
 }
 
-// Whether the second byte of each of the 16 inputs is zero.
+// Whether what stands between the kind and the value of each of the 16 inputs is zero.
 pub fn inputs_zeroed(s: &[u8]) -> bool
     ensures { λ r. ⌜ r ≡ inputsZeroed (now (s .entry)) ⌝ }
 {
     let mut i: usize = 0;
     while i < 16 {
-        if records::byte(s, 4 * i + 1) != 0 {
+        if records::byte(s, (INPUT as usize) * i + 1) != 0 {
             return false;
         }
         i += 1;
@@ -109,7 +135,7 @@ pub fn inputs_formed(s: &[u8]) -> bool
 }
 
 // A mark that is 0 or 1, and a zero after it.
-fn mark_formed(s: &[u8], at: u16) -> bool
+fn mark_formed(s: &[u8], at: u32) -> bool
     ensures { λ r. ⌜ r ≡ markFormed (now (s .entry)) at ⌝ }
 {
     let i = at as usize;
@@ -124,7 +150,7 @@ pub fn session_formed(s: &[u8]) -> bool
     ensures { λ r. ⌜ r ≡ sessionFormed (now (s .entry)) ⌝ }
 {
     if inputs_zeroed(s) {
-        mark_formed(s, 72)
+        mark_formed(s, HALTED as u32)
     } else {
         false
     }
@@ -135,13 +161,13 @@ pub fn session_in(s: &[u8]) -> Session
 {
     Session {
         inputs: inputs_in(s),
-        count: two(s, 64),
+        count: two(s, COUNT),
         state: State {
-            assumed: two(s, 66),
-            asserted: two(s, 68),
+            assumed: two(s, ASSUMED),
+            asserted: two(s, ASSERTED),
         },
-        halted: records::byte(s, 72) == 1,
-        accepted: two(s, 70),
+        halted: records::byte(s, HALTED) == 1,
+        accepted: two(s, ACCEPTED),
     }
 }
 
@@ -178,7 +204,7 @@ fn put(s: &mut [u8], at: usize, v: u8)
     }
 }
 
-fn put_two(s: &mut [u8], at: u16, v: u16)
+fn put_two(s: &mut [u8], at: u32, v: u16)
     ensures { λ _. ⌜ now (s .exit) ≡ sets (now (s .entry)) at (pairsOf (v ∷ [])) ⌝ }
 {
     let i = at as usize;
@@ -186,11 +212,18 @@ fn put_two(s: &mut [u8], at: u16, v: u16)
     put(s, i + 1, (v / 256) as u8);
 }
 
+// A word, the low half first.
+fn put_word(s: &mut [u8], at: u16, w: Word)
+    ensures { λ _. ⌜ now (s .exit) ≡ sets (now (s .entry)) at (wordBytesOf w) ⌝ }
+{
+    put_two(s, at as u32, words::low(w));
+}
+
 // Four numbers of two bytes each.
 fn put_four(s: &mut [u8], at: u8, a: u16, b: u16, c: u16, d: u16)
     ensures { λ _. ⌜ now (s .exit) ≡ sets (now (s .entry)) at (pairsOf (a ∷ b ∷ c ∷ d ∷ [])) ⌝ }
 {
-    let i = at as u16;
+    let i = at as u32;
     put_two(s, i, a);
     put_two(s, i + 2, b);
     put_two(s, i + 4, c);
@@ -204,16 +237,16 @@ fn bit_of(b: bool) -> u8
 }
 
 fn put_input(s: &mut [u8], i: u8, x: Input)
-    ensures { λ _. ⌜ now (s .exit) ≡ sets (now (s .entry)) (4 * i) (inputBytes x) ⌝ }
+    ensures { λ _. ⌜ now (s .exit) ≡ sets (now (s .entry)) (inputSize * i) (inputBytes x) ⌝ }
 {
-    let at = 4 * (i as u16);
+    let at = INPUT * (i as u16);
     put(s, at as usize, x.kind);
     put(s, (at as usize) + 1, 0);
-    put_two(s, at + 2, x.value);
+    put_word(s, at + WORD, x.value);
 }
 
 fn put_inputs(s: &mut [u8], inputs: [Input; 16])
-    ensures { λ _. ⌜ (length (inputsBytes inputs) ≡ 64) × (now (s .exit) ≡ sets (now (s .entry)) 0 (inputsBytes inputs)) ⌝ }
+    ensures { λ _. ⌜ (length (inputsBytes inputs) ≡ inputsLength) × (now (s .exit) ≡ sets (now (s .entry)) 0 (inputsBytes inputs)) ⌝ }
 {
     let mut i: u8 = 0;
     while i < 16 {
@@ -223,19 +256,26 @@ fn put_inputs(s: &mut [u8], inputs: [Input; 16])
 }
 
 pub fn put_session(s: &mut [u8], x: Session)
-    ensures { λ _. ⌜ (length (sessionBytes x) ≡ 74) × (now (s .exit) ≡ sets (now (s .entry)) 0 (sessionBytes x)) ⌝ }
+    ensures { λ _. ⌜ (length (sessionBytes x) ≡ sessionLength) × (now (s .exit) ≡ sets (now (s .entry)) 0 (sessionBytes x)) ⌝ }
 {
     let inputs = x.inputs;
     let state = x.state;
     put_inputs(s, inputs);
-    put_four(s, 64, x.count, state.assumed, state.asserted, x.accepted);
-    put(s, 72, bit_of(x.halted));
-    put(s, 73, 0);
+    put_four(
+        s,
+        COUNT as u8,
+        x.count,
+        state.assumed,
+        state.asserted,
+        x.accepted,
+    );
+    put(s, HALTED, bit_of(x.halted));
+    put(s, HALTED + 1, 0);
 }
 
 // S, T, the value, the halted mark and the depth.
 fn put_result(place: &mut [u8], x: State, value: u16, mark: u16, depth: u16) -> u8
-    ensures { λ r. ⌜ (r, now (place .exit)) ≡ writtenAt (0 ∷ x .assumed ∷ x .asserted ∷ value ∷ mark ∷ depth ∷ []) (now (place .entry)) ⌝ }
+    ensures { λ r. ⌜ (r, now (place .exit)) ≡ writtenAt pairsOf (0 ∷ x .assumed ∷ x .asserted ∷ value ∷ mark ∷ depth ∷ []) (now (place .entry)) ⌝ }
 {
     put_four(place, 0, x.assumed, x.asserted, value, mark);
     put_two(place, 8, depth);
@@ -244,7 +284,7 @@ fn put_result(place: &mut [u8], x: State, value: u16, mark: u16, depth: u16) -> 
 
 // What an evaluation answered, at its place; or the refusal.
 pub fn put_answer(place: &mut [u8], a: Answer) -> u8
-    ensures { λ r. ⌜ (r, now (place .exit)) ≡ writtenAt (answerValues a) (now (place .entry)) ⌝ }
+    ensures { λ r. ⌜ (r, now (place .exit)) ≡ writtenAt pairsOf (answerValues a) (now (place .entry)) ⌝ }
 {
     match a {
         Answer::Out {
@@ -257,21 +297,21 @@ pub fn put_answer(place: &mut [u8], a: Answer) -> u8
     }
 }
 
-// A kind and a number.
-fn put_kind(place: &mut [u8], kind: u8, n: u16) -> u8
-    ensures { λ r. ⌜ (r, now (place .exit)) ≡ writtenAt (0 ∷ kind ∷ n ∷ []) (now (place .entry)) ⌝ }
+// A kind and a number, each as a word.
+fn put_kind(place: &mut [u8], kind: u8, n: Word) -> u8
+    ensures { λ r. ⌜ (r, now (place .exit)) ≡ writtenAt wordsOf (0 ∷ kind ∷ n ∷ []) (now (place .entry)) ⌝ }
 {
-    put_two(place, 0, kind as u16);
-    put_two(place, 2, n);
+    put_word(place, 0, kind as Word);
+    put_word(place, WORD, n);
     0
 }
 
 // What was read or run, at its place; or the refusal.
 pub fn put_outcome(place: &mut [u8], o: Outcome) -> u8
-    ensures { λ r. ⌜ (r, now (place .exit)) ≡ writtenAt (outcomeValues o) (now (place .entry)) ⌝ }
+    ensures { λ r. ⌜ (r, now (place .exit)) ≡ writtenAt wordsOf (outcomeValues o) (now (place .entry)) ⌝ }
 {
     match o {
-        Outcome::Truth(b) => put_kind(place, numbers::TRUTH_TERM, bit_of(b) as u16),
+        Outcome::Truth(b) => put_kind(place, numbers::TRUTH_TERM, bit_of(b) as Word),
         Outcome::Word(w) => put_kind(place, numbers::WORD_TERM, w),
         Outcome::Procedure(i) => put_kind(place, numbers::PROCEDURE_TERM, i),
         Outcome::Abort => put_kind(place, numbers::ABORT_RECORD, 0),

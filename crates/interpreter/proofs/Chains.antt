@@ -1,5 +1,5 @@
 -- Chains of bindings in a store: one step along a chain, and what writing above it leaves. Assumes nothing.
-use mathlib.Core.Path.{_≡_, refl, sym, ap, _∙_}
+use mathlib.Core.Path.{_≡_, refl, sym, ap, ap₂, _∙_}
 use mathlib.Core.Bool.{Bool, true, false}
 use mathlib.Core.List.{List}
 use Prim.Native.Nat.{ℕ, zero, suc, _+_, _-_, _*_, _<_, _≤_}
@@ -8,12 +8,15 @@ use native.Mathlib.Omega.{arith}
 use lib.Dec.{eqb, ltb}
 use lib.ListN.{length, getD}
 use borrow.Author.Tests.{eqb-true, eqb-false, eq-eqb, ne-eqb, ltb-true, ltb-false, lt-ltb, le-ltb}
-use Rattle.notation.specs.Notation.{if_equals_then_else_, if_below_then_else_}
+use Rattle.notation.specs.Notation.{pick, if_equals_then_else_, if_below_then_else_}
+use Rattle.semantics.specs.declared.Record.{Record}
+use Rattle.semantics.specs.Numbers.{procedureTerm}
 use Rattle.semantics.specs.Records.{recordAt}
-use Rattle.semantics.specs.Run.{Value, binding, none, placed}
+use Rattle.semantics.specs.Run.{Value, procedure, binding, none, placed}
 use Rattle.interpreter.specs.declared.Held.{Held}
-use Rattle.interpreter.specs.Store.{valueOf, bindingOf, chainBelow, chainIn, lowerOf, valueIn, shown}
-use Rattle.interpreter.specs.Promise.{put, bound, heldAt, nextAt, Found}
+use Rattle.interpreter.specs.Store.{valueOf, bindingOf, chainBelow, chainIn, lowerOf, linkOf, valueIn, shown}
+use Rattle.interpreter.specs.Promise.{put, bound, heldIn, heldAt, nextAt, Found}
+use Rattle.interpreter.proofs.Sorts.{of-procedure, any-bindings}
 use Rattle.interpreter.proofs.Bytes.{put-record, put-kept, record-same}
 
 -- a lower chain is named as it is
@@ -32,6 +35,16 @@ lower-low n e = go (ltb n e) refl
     go : (t : Bool) → ltb n e ≡ t → lowerOf n e ≤ n
     go true h = rw (lower-none n e (ltb-true _ _ h)) (omega arith)
     go false h = let l : e ≤ n = ltb-false _ _ h in rw (lower-same n e l) l
+
+-- the value at a place, by its sort
+module _ (s : List ℕ) (n : ℕ) {x : Record} (r : x ≡ recordAt s n) {q : ℕ} {v : Held} (h : v ≡ record { sort = x .kind; first = x .p; second = q }) where
+  pub held-procedure : x .kind ≡ procedureTerm → q ≡ lowerOf n (x .q) → v ≡ heldAt s n
+  unfolding heldAt if_equals_then_else_
+  held-procedure k e = rw (h, e, ← r, k)
+
+  pub held-other : (x .kind ≡ procedureTerm → ⊥) → q ≡ x .q → v ≡ heldAt s n
+  unfolding heldAt if_equals_then_else_
+  held-other k e = rw (h, e, ← r, ne-eqb _ _ k)
 
 -- a place past the nearest
 placed-next : (p : ℕ) (v e : Value) → (p ≡ 0 → ⊥) → placed p (binding v e) ≡ placed (p - 1) e
@@ -75,13 +88,23 @@ module _ (s : List ℕ) where
       go true h = let l : n < e = ltb-true _ _ h in rw (lower-none n e l) (below-past n e l ∙ sym chain-empty)
       go false h = let l : e ≤ n = ltb-false _ _ h in rw (lower-same n e l) (below-in n e l)
 
+  -- the value that place n holds: only a procedure asks for the chain in its second field
+  value-there : (n : ℕ) (x : Record) → valueOf (x .kind) (x .p) (x .q) (chainBelow s n (x .q)) ≡ valueIn s (heldIn n x)
+  unfolding valueIn linkOf if_equals_then_else_
+  value-there n x = go (eqb (x .kind) procedureTerm) refl
+    where
+      go : (t : Bool) → eqb (x .kind) procedureTerm ≡ t → valueOf (x .kind) (x .p) (x .q) (chainBelow s n (x .q))
+          ≡ valueOf (x .kind) (x .p) (pick t (lowerOf n (x .q)) (x .q)) (chainIn s (pick t (pick t (lowerOf n (x .q)) (x .q)) 0))
+      go true e = let h = eqb-true _ _ e in of-procedure _ _ _ _ h ∙ (ap (procedure (x .p)) (below-lower n (x .q)) ∙ sym (of-procedure _ _ _ _ h))
+      go false e = any-bindings _ _ _ _ _ (eqb-false _ _ e)
+
   -- chain n + 1 is the binding at place n, and the chain after it
   pub chain-next : (n : ℕ) → chainIn s (suc n) ≡ binding (valueIn s (heldAt s n)) (chainIn s (nextAt s n))
   unfolding chainIn valueIn heldAt nextAt
-  chain-next n = below-here n (suc n) refl ∙ simp (below-lower n (recordAt s n .q), below-lower n (recordAt s n .r))
+  chain-next n = below-here n (suc n) refl ∙ ap₂ binding (value-there n (recordAt s n)) (below-lower n (recordAt s n .r))
 
   -- a value with no bindings is as it shows
-  pub value-shown : (v : Held) → v .link ≡ 0 → valueIn s v ≡ shown v
+  pub value-shown : (v : Held) → linkOf v ≡ 0 → valueIn s v ≡ shown v
   unfolding valueIn shown
   value-shown v h = rw (h, chain-empty)
 
@@ -90,17 +113,26 @@ module _ (s : List ℕ) where
   unfolding nextAt
   next-low n = lower-low n (recordAt s n .r)
 
-  -- the same, of a chain that is not empty
+  -- the chain of the value there is lower
+  held-low : (n : ℕ) → linkOf (heldAt s n) ≤ n
+  unfolding linkOf heldAt if_equals_then_else_
+  held-low n = go (eqb (recordAt s n .kind) procedureTerm)
+    where
+      go : (t : Bool) → pick t (pick t (lowerOf n (recordAt s n .q)) (recordAt s n .q)) 0 ≤ n
+      go true = lower-low n (recordAt s n .q)
+      go false = omega arith
+
+  -- chain n + 1, of a chain that is not empty
   chain-at : (at : ℕ) → 0 < at → chainIn s at ≡ binding (valueIn s (heldAt s (at - 1))) (chainIn s (nextAt s (at - 1)))
   chain-at at h = let u : at ≡ suc (at - 1) = omega arith in ap (chainIn s) u ∙ chain-next (at - 1)
 
   -- looking for a place along a chain
   module _ (e p at left : ℕ) (inv : placed left (chainIn s at) ≡ placed p (chainIn s e)) (low : at ≤ e) where
     pub find-here : 0 < at → left ≡ 0 → {v : Held} → v ≡ heldAt s (at - 1) → Found s e p v
-    unfolding placed heldAt
+    unfolding placed
     find-here h z q =
         let there : valueIn s (heldAt s (at - 1)) ≡ placed left (chainIn s at) = rw (z, chain-at at h) in
-        let l : lowerOf (at - 1) (recordAt s (at - 1) .q) ≤ at - 1 = lower-low (at - 1) (recordAt s (at - 1) .q) in
+        let l = held-low (at - 1) in
         record { is = rw q (there ∙ inv); low = rw q (omega arith) }
 
     pub find-next : 0 < at → (left ≡ 0 → ⊥) → {n : ℕ} → n ≡ nextAt s (at - 1) → placed (left - 1) (chainIn s n) ≡ placed p (chainIn s e)
@@ -109,8 +141,8 @@ module _ (s : List ℕ) where
     pub find-lower : 0 < at → {n : ℕ} → n ≡ nextAt s (at - 1) → n ≤ e
     find-lower h q = let l = next-low (at - 1) in rw q (omega arith)
 
-    pub find-end : at ≤ 0 → {v : Held} → v ≡ record { sort = 0; number = 0; link = 0 } → Found s e p v
-    unfolding placed valueIn valueOf if_equals_then_else_
+    pub find-end : at ≤ 0 → {v : Held} → v ≡ record { sort = 0; first = 0; second = 0 } → Found s e p v
+    unfolding placed valueIn linkOf valueOf if_equals_then_else_
     find-end h q =
         let z : at ≡ 0 = omega arith in
         let there : none ≡ placed left (chainIn s at) = rw (z, chain-empty) in
@@ -132,12 +164,12 @@ module _ (s y : List ℕ) (k : ℕ) (same : (i : ℕ) → i < 8 * k → getD y i
   unfolding chainIn
   chain-same e h = below-same e e h
 
-  pub value-same : (v : Held) → v .link ≤ k → valueIn y v ≡ valueIn s v
+  pub value-same : (v : Held) → linkOf v ≤ k → valueIn y v ≡ valueIn s v
   unfolding valueIn
-  value-same v h = rw (chain-same (v .link) h)
+  value-same v h = rw (chain-same (linkOf v) h)
 
 -- a binding that was put
-module _ (s : List ℕ) (n : ℕ) (v : Held) (e : ℕ) (room : 8 * n + 8 ≤ length s) (l : v .link ≤ n) (h : e ≤ n) where
+module _ (s : List ℕ) (n : ℕ) (v : Held) (e : ℕ) (room : 8 * n + 8 ≤ length s) (l : linkOf v ≤ n) (h : e ≤ n) where
   written : List ℕ
   written = put s n (bound v e)
 
@@ -146,8 +178,12 @@ module _ (s : List ℕ) (n : ℕ) (v : Held) (e : ℕ) (room : 8 * n + 8 ≤ len
   there = put-record s n (bound v e) room
 
   held : heldAt written n ≡ v
-  unfolding heldAt
-  held = rw (there, lower-same n (v .link) l)
+  unfolding heldAt linkOf if_equals_then_else_
+  held = rw there (go (eqb (v .sort) procedureTerm) l)
+    where
+      go : (t : Bool) → pick t (v .second) 0 ≤ n → record { sort = v .sort; first = v .first; second = pick t (lowerOf n (v .second)) (v .second) } ≡ v
+      go true b = rw (lower-same n (v .second) b)
+      go false b = refl
 
   next : nextAt written n ≡ e
   unfolding nextAt

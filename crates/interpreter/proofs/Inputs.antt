@@ -8,7 +8,7 @@ use lib.Seq.{drop-cons}
 use Rattle.semantics.specs.declared.Input.{Input}
 use Rattle.semantics.specs.Run.{none, binding, inputValue, inputsBound}
 use Rattle.interpreter.specs.declared.Held.{Held}
-use Rattle.interpreter.specs.Store.{chainIn, valueIn, shown}
+use Rattle.interpreter.specs.Store.{chainIn, linkOf, valueIn, shown}
 use Rattle.interpreter.specs.Promise.{put, bound}
 use Rattle.interpreter.proofs.Chains.{chain-empty, chain-put, value-shown}
 
@@ -26,7 +26,7 @@ module _ (s : List ℕ) (xs : List Input) (ns : List ℕ) (lx : length xs ≡ 16
 
   -- one more, below those that are bound
   module _ (k : ℕ) (h : k < 16) (room : 8 * 16 ≤ length s) (inv : chainIn s k ≡ inputsBound (drop (16 - k) xs) (drop (16 - k) ns)) (d : Input) where
-    pub inputs-more : (v : Held) → shown v ≡ inputValue (getD xs (15 - k) d) (getD ns (15 - k) 0) → v .link ≡ 0 → {y : List ℕ} → y ≡ put s k (bound v k)
+    pub inputs-more : (v : Held) → shown v ≡ inputValue (getD xs (15 - k) d) (getD ns (15 - k) 0) → linkOf v ≡ 0 → {y : List ℕ} → y ≡ put s k (bound v k)
         → chainIn y (k + 1) ≡ inputsBound (drop (16 - (k + 1)) xs) (drop (16 - (k + 1)) ns)
     unfolding inputsBound
     inputs-more v e l q =

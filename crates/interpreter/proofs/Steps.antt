@@ -13,12 +13,12 @@ use Rattle.notation.specs.Notation.{pick, with, if_then_else_, if_equals_then_e
 use Rattle.semantics.specs.declared.Record.{Record}
 use Rattle.semantics.specs.declared.Outcome.{Outcome}
 use Rattle.semantics.specs.Numbers.{datumRecord, variableRecord, procedureRecord, callRecord, operatorRecord, letRecord, ifRecord, abortRecord, procedureTerm, inputCount}
-use Rattle.semantics.specs.Records.{recordAt}
+use Rattle.semantics.specs.Records.{recordAt, datumWord}
 use Rattle.semantics.specs.Run.{Value, procedure, binding, none, gives, aborts, errs, spends, placed, isFalse, isAWord, isAProcedure, wordIn, wordsRun, operatorRun, datumValue}
 use Rattle.semantics.specs.PlainRun.{Stored, ended, full, Storing, onward, taking, callStored, expressionStored, storedOf, startedOf, valueGiven, endedOutcome, storedOutcome, placesIn}
 use Rattle.interpreter.specs.declared.Held.{Held}
 use Rattle.interpreter.specs.declared.Ran.{Ran}
-use Rattle.interpreter.specs.Store.{valueOf, chainIn, valueIn, shown, nothing, storedBy, valueEnd, abortEnd, errorEnd, spentEnd, fullEnd}
+use Rattle.interpreter.specs.Store.{valueOf, chainIn, linkOf, valueIn, shown, nothing, storedBy, valueEnd, abortEnd, errorEnd, spentEnd, fullEnd}
 use Rattle.interpreter.specs.Promise.{put, bound, Found, Kept, runIn, underIn, Runs}
 use Rattle.interpreter.proofs.Bytes.{put-kept}
 use Rattle.interpreter.proofs.Sorts.{cases, of-truth, of-word, of-procedure, of-none, word-test, procedure-test}
@@ -40,38 +40,38 @@ pub runs-as : {m n : Stored} {s y : List ℕ} {k : ℕ} {o : Ran} → m ≡ n �
 runs-as e r = record { is = r .is ∙ e; low = r .low; kept = r .kept }
 
 -- ---- what a value shows, whatever its bindings
-module _ (k n : ℕ) (e f : Value) where
-  same-false : isFalse (valueOf k n e) ≡ isFalse (valueOf k n f)
+module _ (k x y : ℕ) (e f : Value) where
+  same-false : isFalse (valueOf k x y e) ≡ isFalse (valueOf k x y f)
   unfolding isFalse
   same-false =
-      cases k (λ h. rw (of-truth k n e h, of-truth k n f h)) (λ h. rw (of-word k n e h, of-word k n f h))
-      (λ h. rw (of-procedure k n e h, of-procedure k n f h)) (λ a b c. rw (of-none k n e a b c, of-none k n f a b c))
+      cases k (λ h. rw (of-truth k x y e h, of-truth k x y f h)) (λ h. rw (of-word k x y e h, of-word k x y f h))
+      (λ h. rw (of-procedure k x y e h, of-procedure k x y f h)) (λ a b c. rw (of-none k x y e a b c, of-none k x y f a b c))
 
-  same-word : wordIn (valueOf k n e) ≡ wordIn (valueOf k n f)
+  same-word : wordIn (valueOf k x y e) ≡ wordIn (valueOf k x y f)
   unfolding wordIn
   same-word =
-      cases k (λ h. rw (of-truth k n e h, of-truth k n f h)) (λ h. rw (of-word k n e h, of-word k n f h))
-      (λ h. rw (of-procedure k n e h, of-procedure k n f h)) (λ a b c. rw (of-none k n e a b c, of-none k n f a b c))
+      cases k (λ h. rw (of-truth k x y e h, of-truth k x y f h)) (λ h. rw (of-word k x y e h, of-word k x y f h))
+      (λ h. rw (of-procedure k x y e h, of-procedure k x y f h)) (λ a b c. rw (of-none k x y e a b c, of-none k x y f a b c))
 
 module _ (s : List ℕ) where
   pub false-shown : (v : Held) → isFalse (valueIn s v) ≡ isFalse (shown v)
   unfolding valueIn shown
-  false-shown v = same-false (v .sort) (v .number) (chainIn s (v .link)) none
+  false-shown v = same-false (v .sort) (v .first) (v .second) (chainIn s (linkOf v)) none
 
   tested : (v : Held) {z : Value} → valueIn s v ≡ z → {b : Bool} → b ≡ isFalse (shown v) → isFalse z ≡ b
   tested v e h = ap isFalse (sym e) ∙ false-shown v ∙ sym h
 
   word-shown : (v : Held) → wordIn (valueIn s v) ≡ wordIn (shown v)
   unfolding valueIn shown
-  word-shown v = same-word (v .sort) (v .number) (chainIn s (v .link)) none
+  word-shown v = same-word (v .sort) (v .first) (v .second) (chainIn s (linkOf v)) none
 
   is-word-shown : (v : Held) → isAWord (valueIn s v) ≡ isAWord (shown v)
   unfolding valueIn shown
-  is-word-shown v = sym (word-test (v .sort) (v .number) (chainIn s (v .link))) ∙ word-test (v .sort) (v .number) none
+  is-word-shown v = sym (word-test (v .sort) (v .first) (v .second) (chainIn s (linkOf v))) ∙ word-test (v .sort) (v .first) (v .second) none
 
   is-procedure-shown : (v : Held) → isAProcedure (valueIn s v) ≡ isAProcedure (shown v)
   unfolding valueIn shown
-  is-procedure-shown v = sym (procedure-test (v .sort) (v .number) (chainIn s (v .link))) ∙ procedure-test (v .sort) (v .number) none
+  is-procedure-shown v = sym (procedure-test (v .sort) (v .first) (v .second) (chainIn s (linkOf v))) ∙ procedure-test (v .sort) (v .first) (v .second) none
 
   operator-shown : (op : ℕ) (x y : Held) → operatorRun op (shown x) (shown y) ≡ operatorRun op (valueIn s x) (valueIn s y)
   unfolding operatorRun wordsRun
@@ -80,8 +80,8 @@ module _ (s : List ℕ) where
   given-shown : (v : Held) → valueGiven (valueIn s v) ≡ valueGiven (shown v)
   unfolding valueIn shown valueGiven
   given-shown v =
-      cases (v .sort) (λ h. rw (of-truth _ _ _ h, of-truth _ _ none h)) (λ h. rw (of-word _ _ _ h, of-word _ _ none h))
-      (λ h. rw (of-procedure _ _ _ h, of-procedure _ _ none h)) (λ a b c. rw (of-none _ _ _ a b c, of-none _ _ none a b c))
+      cases (v .sort) (λ h. rw (of-truth _ _ _ _ h, of-truth _ _ _ none h)) (λ h. rw (of-word _ _ _ _ h, of-word _ _ _ none h))
+      (λ h. rw (of-procedure _ _ _ _ h, of-procedure _ _ _ none h)) (λ a b c. rw (of-none _ _ _ _ a b c, of-none _ _ _ none a b c))
 
   -- what a run answers does not ask for the bindings either
   pub outcome-shown : (o : Ran) → storedOutcome (storedBy (valueIn s) o) ≡ storedOutcome (storedBy shown o)
@@ -101,47 +101,47 @@ module _ (s : List ℕ) where
 
 -- ---- an answer without a run of a part
 module _ {s : List ℕ} {k : ℕ} {o : Ran} where
-  still : {m : Stored} → storedBy (valueIn s) o ≡ m → o .value .link ≤ k → o .taken ≡ k → Runs m s k o s
+  still : {m : Stored} → storedBy (valueIn s) o ≡ m → linkOf (o .value) ≤ k → o .taken ≡ k → Runs m s k o s
   still e l t = record { is = e; low = rw t l; kept = rw t (kept-still s k) }
 
   pub still-abort : o ≡ record { how = abortEnd; value = nothing; taken = k } → Runs (ended aborts k) s k o s
-  unfolding storedBy if_equals_then_else_
+  unfolding storedBy linkOf if_equals_then_else_
   still-abort e = still (rw e) (rw e (omega arith)) (rw e)
 
   pub still-error : o ≡ record { how = errorEnd; value = nothing; taken = k } → Runs (ended errs k) s k o s
-  unfolding storedBy if_equals_then_else_
+  unfolding storedBy linkOf if_equals_then_else_
   still-error e = still (rw e) (rw e (omega arith)) (rw e)
 
   pub still-spent : o ≡ record { how = spentEnd; value = nothing; taken = k } → Runs (ended spends k) s k o s
-  unfolding storedBy if_equals_then_else_
+  unfolding storedBy linkOf if_equals_then_else_
   still-spent e = still (rw e) (rw e (omega arith)) (rw e)
 
   pub still-full : o ≡ record { how = fullEnd; value = nothing; taken = k } → Runs full s k o s
-  unfolding storedBy if_equals_then_else_
+  unfolding storedBy linkOf if_equals_then_else_
   still-full e = still (rw e) (rw e (omega arith)) (rw e)
 
-  pub still-operator : (op : ℕ) (x y : Held) → storedBy shown o ≡ ended (operatorRun op (shown x) (shown y)) k → o .value .link ≡ 0 → o .taken ≡ k
+  pub still-operator : (op : ℕ) (x y : Held) → storedBy shown o ≡ ended (operatorRun op (shown x) (shown y)) k → linkOf (o .value) ≡ 0 → o .taken ≡ k
       → Runs (ended (operatorRun op (valueIn s x) (valueIn s y)) k) s k o s
   unfolding storedBy
   still-operator op x y e l t = still (rw (value-shown s (o .value) l) (e ∙ rw (operator-shown s op x y))) (rw l (omega arith)) t
 
   module _ {v : Held} (e : o ≡ record { how = valueEnd; value = v; taken = k }) where
-    still-value : {x : Value} → valueIn s v ≡ x → v .link ≤ k → Runs (ended (gives x) k) s k o s
+    still-value : {x : Value} → valueIn s v ≡ x → linkOf v ≤ k → Runs (ended (gives x) k) s k o s
     unfolding storedBy if_equals_then_else_
     still-value h l = still (rw (e, h)) (rw e l) (rw e)
 
-    pub still-plain : {x : Value} → shown v ≡ x → v .link ≡ 0 → Runs (ended (gives x) k) s k o s
+    pub still-plain : {x : Value} → shown v ≡ x → linkOf v ≡ 0 → Runs (ended (gives x) k) s k o s
     still-plain h l = still-value (value-shown s v l ∙ h) (rw l (omega arith))
 
     pub still-found : (c p : ℕ) → Found s c p v → c ≤ k → Runs (ended (gives (placed p (chainIn s c))) k) s k o s
     still-found c p f h = let l = f .low in still-value (f .is) (omega arith)
 
-    pub still-closure : (i c : ℕ) → v ≡ record { sort = procedureTerm; number = i; link = c } → c ≤ k → Runs (ended (gives (procedure i (chainIn s c))) k) s k o s
-    unfolding valueIn
-    still-closure i c q h = still-value (rw q (of-procedure procedureTerm i (chainIn s c) refl)) (rw q h)
+    pub still-closure : (i c : ℕ) → v ≡ record { sort = procedureTerm; first = i; second = c } → c ≤ k → Runs (ended (gives (procedure i (chainIn s c))) k) s k o s
+    unfolding valueIn linkOf if_equals_then_else_
+    still-closure i c q h = still-value (rw q (of-procedure procedureTerm i c (chainIn s c) refl)) (rw q h)
 
 -- ---- one place more: a binding, and the run under it
-module _ (s rule : List ℕ) (d i : ℕ) (v : Held) (e k : ℕ) (l : v .link ≤ k) (h : e ≤ k) where
+module _ (s rule : List ℕ) (d i : ℕ) (v : Held) (e k : ℕ) (l : linkOf v ≤ k) (h : e ≤ k) where
   pub take-place : {n : ℕ} → n ≡ placesIn (length s) → k < n → {y : List ℕ} → y ≡ put s k (bound v e) → {o : Ran} {z : List ℕ}
       → Runs (runIn y rule d i (k + 1) (k + 1)) y (k + 1) o z
       → Runs (underIn s rule d i v e k) s k o z
@@ -198,16 +198,16 @@ module _ (room : ℕ) (run : ℕ → Storing) (rule s : List ℕ) (f : Held) (v 
   no-call : (f .sort ≡ procedureTerm → ⊥) → ended errs k ≡ callStored room run rule (valueIn s f) v k
   unfolding valueIn callStored
   no-call g =
-      cases (f .sort) (λ h. rw (of-truth (f .sort) _ _ h)) (λ h. rw (of-word (f .sort) _ _ h)) (λ h. absurd (g h))
-      (λ a b c. rw (of-none (f .sort) _ _ a b c))
+      cases (f .sort) (λ h. rw (of-truth (f .sort) _ _ _ h)) (λ h. rw (of-word (f .sort) _ _ _ h)) (λ h. absurd (g h))
+      (λ a b c. rw (of-none (f .sort) _ _ _ a b c))
 
   pub call-error : (f .sort ≡ procedureTerm → ⊥) → {o : Ran} → Runs (ended errs k) s k o s → Runs (callStored room run rule (valueIn s f) v k) s k o s
   call-error g = runs-as (no-call g)
 
-  pub call-run : f .sort ≡ procedureTerm → {x : Record} → x ≡ recordAt rule (f .number) → {o : Ran} {y : List ℕ}
-      → Runs (taking room (run (x .p)) (binding v (chainIn s (f .link))) k) s k o y → Runs (callStored room run rule (valueIn s f) v k) s k o y
+  pub call-run : f .sort ≡ procedureTerm → {x : Record} → x ≡ recordAt rule (f .first) → {e : ℕ} → e ≡ linkOf f → {o : Ran} {y : List ℕ}
+      → Runs (taking room (run (x .p)) (binding v (chainIn s e)) k) s k o y → Runs (callStored room run rule (valueIn s f) v k) s k o y
   unfolding valueIn callStored
-  call-run h e r = runs-as (rw (of-procedure (f .sort) _ _ h, e)) r
+  call-run h e l r = runs-as (rw (of-procedure (f .sort) _ _ _ h, e, l)) r
 
 -- ---- an expression, by the kind of its record
 module _ (room : ℕ) (rule : List ℕ) (i : ℕ) (e : Value) (k : ℕ) where
@@ -225,7 +225,7 @@ module _ (room : ℕ) (rule : List ℕ) (i : ℕ) (e : Value) (k : ℕ) where
     step = rw r (from d h)
 
     module _ {s y : List ℕ} {o : Ran} where
-      pub run-datum : x .kind ≡ datumRecord → Runs (ended (gives (datumValue (x .op) (x .p))) k) s k o y → Runs (storedOf room rule d i e k) s k o y
+      pub run-datum : x .kind ≡ datumRecord → Runs (ended (gives (datumValue (x .op) (datumWord x))) k) s k o y → Runs (storedOf room rule d i e k) s k o y
       unfolding expressionStored if_equals_then_else_
       run-datum q = runs-as (rw q refl ∙ step)
 

@@ -1,9 +1,11 @@
 -- Each way through the functions on values, as a law on the definitions. Assumes nothing.
-use mathlib.Core.Path.{_≡_, refl, _∙_}
+use mathlib.Core.Path.{_≡_, refl, ap, _∙_}
 use mathlib.Core.Bool.{Bool, true, false}
 use Prim.Native.Nat.{ℕ, _<_, _≤_}
 use lib.Dec.{eqb}
 use borrow.Author.Tests.{ne-eqb, lt-ltb, le-ltb}
+use Rattle.words.specs.Words.{lowOf, highOf}
+use Rattle.words.proofs.Laws.{join-halves}
 use Rattle.notation.specs.Notation.{if_then_else_, if_equals_then_else_, if_below_then_else_}
 use Rattle.operators.specs.Operators.{operandsOf, givesTruthOf, operateOf}
 use Rattle.semantics.specs.declared.Outcome.{Outcome}
@@ -13,40 +15,48 @@ use Rattle.semantics.specs.Run.{Value, truth, word, none, Ended, gives, errs, i
 use Rattle.semantics.specs.PlainRun.{ended, valueGiven, endedOutcome, storedOutcome}
 use Rattle.interpreter.specs.declared.Held.{Held}
 use Rattle.interpreter.specs.declared.Ran.{Ran}
-use Rattle.interpreter.specs.Store.{shown, storedBy, valueEnd, abortEnd, errorEnd, spentEnd}
+use Rattle.interpreter.specs.Store.{linkOf, shown, nothing, storedBy, valueEnd, abortEnd, errorEnd, spentEnd}
 use Rattle.interpreter.proofs.Sorts.{of-truth, of-word, of-procedure, of-none}
 
--- a value that is no procedure, as it was made
-module _ {v : Held} {n : ℕ} {x : Value} where
-  pub plain-truth : v ≡ record { sort = truthTerm; number = n; link = 0 } → truth (eqb n 1) ≡ x → shown v ≡ x
-  unfolding shown
-  plain-truth h e = rw h (of-truth truthTerm n none refl ∙ e)
-
-  pub plain-word : v ≡ record { sort = wordTerm; number = n; link = 0 } → word n ≡ x → shown v ≡ x
-  unfolding shown
-  plain-word h e = rw h (of-word wordTerm n none refl ∙ e)
-
-pub plain-link : {v : Held} {k n : ℕ} → v ≡ record { sort = k; number = n; link = 0 } → v .link ≡ 0
-plain-link h = rw h
-
-pub ruleset plains = (plain-truth, plain-word, plain-link)
-
 -- a truth that was made
-pub made-true : {b : Bool} → b ≡ true → truth (eqb 1 1) ≡ truth b
-made-true h = rw h
+module _ {v : Held} {b : Bool} where
+  pub made-true : v ≡ record { sort = truthTerm; first = 1; second = 0 } → b ≡ true → shown v ≡ truth b
+  unfolding shown
+  made-true h e = rw (h, e) (of-truth truthTerm 1 0 none refl)
 
-pub made-false : {b : Bool} → b ≡ false → truth (eqb 0 1) ≡ truth b
-made-false h = rw h
+  pub made-false : v ≡ record { sort = truthTerm; first = 0; second = 0 } → b ≡ false → shown v ≡ truth b
+  unfolding shown
+  made-false h e = rw (h, e) (of-truth truthTerm 0 0 none refl)
+
+pub truth-link : {v : Held} {x y : ℕ} → v ≡ record { sort = truthTerm; first = x; second = y } → linkOf v ≡ 0
+unfolding linkOf if_equals_then_else_
+truth-link h = rw h
+
+pub nothing-link : linkOf nothing ≡ 0
+unfolding linkOf if_equals_then_else_
+nothing-link = refl
+
+-- a word that was made, of its fields
+module _ {v : Held} {x y : ℕ} (h : v ≡ record { sort = wordTerm; first = x; second = y }) where
+  pub made-word : (w : ℕ) → x ≡ lowOf w → y ≡ highOf w → shown v ≡ word w
+  unfolding shown
+  made-word w l u = rw (h, l, u) (of-word wordTerm _ _ none refl ∙ ap word (join-halves w))
+
+  pub word-link : linkOf v ≡ 0
+  unfolding linkOf if_equals_then_else_
+  word-link = rw h
+
+pub ruleset made = (made-true, made-false, truth-link, made-word, word-link)
 
 -- what a code from 1 to 12 gives
-module _ (op x y : ℕ) {n : ℕ} (e : n ≡ operateOf op x y) {b : Bool} (t : b ≡ givesTruthOf op) where
-  pub operation-truth : b ≡ true → truth (eqb n 1) ≡ operationValue op x y
+module _ (op x y : ℕ) {n : ℕ} (e : n ≡ operateOf op x y) {b : Bool} (t : b ≡ givesTruthOf op) {z : Value} where
+  pub operation-truth : b ≡ true → z ≡ truth (eqb n 1) → z ≡ operationValue op x y
   unfolding operationValue if_then_else_
-  operation-truth h = rw (← t, h, e)
+  operation-truth h q = rw (← t, h, ← e) q
 
-  pub operation-word : b ≡ false → word n ≡ operationValue op x y
+  pub operation-word : b ≡ false → z ≡ word n → z ≡ operationValue op x y
   unfolding operationValue if_then_else_
-  operation-word h = rw (← t, h, e)
+  operation-word h q = rw (← t, h, ← e) q
 
 -- whether it has its words
 module _ (op : ℕ) (x y : Value) {a : Bool} (first : a ≡ isAWord x) where
@@ -97,10 +107,10 @@ module _ {o : Ran} {v : Held} {k : ℕ} {x : Ended} where
   operator-errs e h = rw (e, ← h)
 
 module _ {o : Ran} {h : ℕ} {v : Held} {k : ℕ} (e : o ≡ record { how = h; value = v; taken = k }) where
-  pub answer-link : {n : ℕ} → v .link ≡ n → o .value .link ≡ n
+  pub answer-link : {n : ℕ} → linkOf v ≡ n → linkOf (o .value) ≡ n
   answer-link q = rw e q
 
-  pub answer-low : v .link ≤ k → o .value .link ≤ k
+  pub answer-low : linkOf v ≤ k → linkOf (o .value) ≤ k
   answer-low l = rw e l
 
   pub answer-taken : o .taken ≡ k
@@ -115,26 +125,27 @@ pub ruleset operations = (
   operator-gives,
   operator-errs,
   answer-link,
+  nothing-link,
   answer-taken,
 )
 
 -- what a value, and what a run, answers
 module _ (v : Held) where
-  pub outcome-truth : v .sort ≡ truthTerm → Truth (eqb (v .number) 1) ≡ valueGiven (shown v)
+  pub outcome-truth : v .sort ≡ truthTerm → Truth (eqb (v .first) 1) ≡ valueGiven (shown v)
   unfolding valueGiven shown
-  outcome-truth h = rw (of-truth _ _ _ h)
+  outcome-truth h = rw (of-truth _ _ _ _ h)
 
-  pub outcome-word : v .sort ≡ wordTerm → Word (v .number) ≡ valueGiven (shown v)
-  unfolding valueGiven shown
-  outcome-word h = rw (of-word _ _ _ h)
+  pub outcome-word : v .sort ≡ wordTerm → {w : ℕ} → w ≡ wordIn (shown v) → Word w ≡ valueGiven (shown v)
+  unfolding valueGiven shown wordIn
+  outcome-word h q = rw (q, of-word _ _ _ _ h)
 
-  pub outcome-procedure : v .sort ≡ procedureTerm → Procedure (v .number) ≡ valueGiven (shown v)
+  pub outcome-procedure : v .sort ≡ procedureTerm → Procedure (v .first) ≡ valueGiven (shown v)
   unfolding valueGiven shown
-  outcome-procedure h = rw (of-procedure _ _ _ h)
+  outcome-procedure h = rw (of-procedure _ _ _ _ h)
 
   pub outcome-none : (v .sort ≡ truthTerm → ⊥) → (v .sort ≡ wordTerm → ⊥) → (v .sort ≡ procedureTerm → ⊥) → Refused noValue ≡ valueGiven (shown v)
   unfolding valueGiven shown
-  outcome-none f g h = rw (of-none _ _ _ f g h)
+  outcome-none f g h = rw (of-none _ _ _ _ f g h)
 
 module _ (o : Ran) where
   pub outcome-value : o .how ≡ valueEnd → {r : Outcome} → r ≡ valueGiven (shown (o .value)) → r ≡ storedOutcome (storedBy shown o)

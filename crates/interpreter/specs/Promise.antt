@@ -3,13 +3,15 @@ use Prim.Native.Nat.{ℕ, _+_, _*_, _/_, _%_, _<_, _≤_}
 use mathlib.Core.Path.{_≡_}
 use mathlib.Core.List.{List, [], _∷_, _++_}
 use lib.ListN.{length, getD, take, drop}
+use Rattle.notation.specs.Notation.{if_equals_then_else_}
 use Rattle.semantics.specs.declared.Record.{Record}
+use Rattle.semantics.specs.Numbers.{procedureTerm}
 use Rattle.semantics.specs.Records.{recordAt}
 use Rattle.semantics.specs.Run.{binding, placed}
 use Rattle.semantics.specs.PlainRun.{Stored, onward, taking, callStored, storedOf, placesIn}
 use Rattle.interpreter.specs.declared.Held.{Held}
 use Rattle.interpreter.specs.declared.Ran.{Ran}
-use Rattle.interpreter.specs.Store.{chainIn, lowerOf, valueIn, storedBy}
+use Rattle.interpreter.specs.Store.{chainIn, lowerOf, linkOf, valueIn, storedBy}
 
 -- the bytes of a record, "fields little-endian"
 unfoldable pub bytesOf : Record → List ℕ
@@ -21,11 +23,15 @@ put s n x = take (8 * n) s ++ (bytesOf x ++ drop 8 (drop (8 * n) s))
 
 -- the record of a binding
 abbrev pub bound : Held → ℕ → Record
-bound v next = record { kind = v .sort; op = 0; p = v .number; q = v .link; r = next }
+bound v next = record { kind = v .sort; op = 0; p = v .first; q = v .second; r = next }
+
+-- the value in a place's record: the chain of a procedure is one that place n names
+abbrev pub heldIn : ℕ → Record → Held
+heldIn n x = record { sort = x .kind; first = x .p; second = if x .kind equals procedureTerm then lowerOf n (x .q) else x .q }
 
 -- the value bound at place n
 unfoldable pub heldAt : List ℕ → ℕ → Held
-heldAt s n = record { sort = recordAt s n .kind; number = recordAt s n .p; link = lowerOf n (recordAt s n .q) }
+heldAt s n = heldIn n (recordAt s n)
 
 -- the chain after place n
 unfoldable pub nextAt : List ℕ → ℕ → ℕ
@@ -34,7 +40,7 @@ nextAt s n = lowerOf n (recordAt s n .r)
 -- What is found at a place of the chain e: the value there, by a chain no longer than e.
 pub record Found (s : List ℕ) (e p : ℕ) (v : Held) : Type 0 where
   pub is : valueIn s v ≡ placed p (chainIn s e)
-  pub low : v .link ≤ e
+  pub low : linkOf v ≤ e
 
 -- The store s with k places taken has become y with n taken: the k places are as they were.
 pub record Kept (s : List ℕ) (k : ℕ) (y : List ℕ) (n : ℕ) : Type 0 where
@@ -62,5 +68,5 @@ callIn s rule d f v k = callStored (placesIn (length s)) (storedOf (placesIn (le
 -- A run from the store s with k places taken answers o and leaves the store y: it ended as m says.
 pub record Runs (m : Stored) (s : List ℕ) (k : ℕ) (o : Ran) (y : List ℕ) : Type 0 where
   pub is : storedBy (valueIn y) o ≡ m
-  pub low : o .value .link ≤ o .taken
+  pub low : linkOf (o .value) ≤ o .taken
   pub kept : Kept s k y (o .taken)

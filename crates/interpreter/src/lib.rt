@@ -24,26 +24,29 @@ use semantics::numbers::PLACE_LIMIT;
 use semantics::numbers::PROCEDURE_RECORD;
 use semantics::numbers::PROCEDURE_TERM;
 use semantics::numbers::STORE_FULL;
+use semantics::numbers::TRUE_DATUM;
 use semantics::numbers::TRUTH_TERM;
 use semantics::numbers::VARIABLE_RECORD;
 use semantics::numbers::WORD_DATUM;
 use semantics::numbers::WORD_TERM;
+use words::Word;
 ghost use mathlib.Core.Path.{_≡_};
 ghost use mathlib.Core.List.{_++_};
 ghost use Prim.Native.Nat.{_+_, _*_, _≤_};
 ghost use lib.ListN.{length, drop, replicate};
 ghost use Rattle.semantics.specs.Numbers.{procedureTerm, inputCount};
-ghost use Rattle.semantics.specs.Run.{truth as «truth-of», isFalse, isAWord, isAProcedure, wordIn, wordsRun, operationValue, operatorRun, datumValue, inputValue, inputsBound};
+ghost use Rattle.semantics.specs.Records.{datumWord};
+ghost use Rattle.semantics.specs.Run.{truth as «truth-of», word as «word-of», isFalse, isAWord, isAProcedure, wordIn, wordsRun, operationValue, operatorRun, datumValue, inputValue, inputsBound};
 ghost use Rattle.semantics.specs.PlainRun.{ended, startedOf, storedOutcome, valueGiven, placesIn};
-ghost use Rattle.interpreter.specs.Store.{chainIn, lowerOf, valueIn, shown, nothing, valueEnd, storedBy};
+ghost use Rattle.interpreter.specs.Store.{chainIn, lowerOf, linkOf, valueIn, shown, nothing, valueEnd, storedBy};
 ghost use Rattle.interpreter.specs.Promise.{bytesOf, put, bound, heldAt, nextAt, Found, runIn, underIn, letIn, callIn, Runs};
 
-// A value: its sort is a truth's, a word's or a procedure's (0: no value), with the truth or the word, or
-// the procedure's record and the chain of its bindings.
+// A value as a place holds it: its sort is a truth's, a word's or a procedure's (0: no value). A truth lies in the
+// first field and a word in both; a procedure's record lies in the first, and the chain of its bindings in the second.
 pub struct Held {
     pub sort: u8,
-    pub number: u16,
-    pub link: u16,
+    pub first: u16,
+    pub second: u16,
 }
 
 // How a run of an expression ended, the value if there is one, and the places taken then.
@@ -67,7 +70,7 @@ const FULL_END: u8 = 4;
 // Runs a rule that is taken to have passed the tests, on inputs that have. The store is zero on return.
 pub fn run_in_store(
     inputs: [Input; 16],
-    numbers: [u16; 16],
+    numbers: [Word; 16],
     rule: &[u8],
     allowance: u16,
     store: &mut [u8],
@@ -85,7 +88,7 @@ fn start(
     store: &mut [u8],
     rule: &[u8],
     inputs: [Input; 16],
-    numbers: [u16; 16],
+    numbers: [Word; 16],
     allowance: u16,
 ) -> Ran
     ensures { λ r. ⌜ (storedBy (valueIn (now (store .exit))) r ≡ startedOf (placesIn (length (now (store .entry)))) (now (rule .entry)) allowance (inputsBound inputs numbers)) × (length (now (store .exit)) ≡ length (now (store .entry))) ⌝ }
@@ -98,7 +101,7 @@ fn start(
 }
 
 // The inputs at the first 16 places, input 15 at place 0.
-fn bind_inputs(store: &mut [u8], inputs: [Input; 16], numbers: [u16; 16])
+fn bind_inputs(store: &mut [u8], inputs: [Input; 16], numbers: [Word; 16])
     requires { ⌜ 8 * inputCount ≤ length (now store) ⌝ }
     ensures { λ _. ⌜ (chainIn (now (store .exit)) inputCount ≡ inputsBound inputs numbers) × (length (now (store .exit)) ≡ length (now (store .entry))) ⌝ }
 {
@@ -112,15 +115,15 @@ fn bind_inputs(store: &mut [u8], inputs: [Input; 16], numbers: [u16; 16])
 }
 
 // What an input is bound to.
-fn input_value(x: Input, n: u16) -> Held
-    ensures { λ r. ⌜ (shown r ≡ inputValue x n) × (r .link ≡ 0) ⌝ }
+fn input_value(x: Input, n: Word) -> Held
+    ensures { λ r. ⌜ (shown r ≡ inputValue x n) × (linkOf r ≡ 0) ⌝ }
 {
     let kind = x.kind;
     match kind {
-        CONSTANT_TRUTH => plain(TRUTH_TERM, x.value),
-        CONSTANT_WORD => plain(WORD_TERM, x.value),
-        FREE_TRUTH => plain(TRUTH_TERM, n),
-        _ => plain(WORD_TERM, n),
+        CONSTANT_TRUTH => truth(x.value == 1),
+        CONSTANT_WORD => word_value(x.value),
+        FREE_TRUTH => truth(n == 1),
+        _ => word_value(n),
     }
 }
 
@@ -136,7 +139,7 @@ fn evaluate(store: &mut [u8], rule: &[u8], depth: u16, i: u16, e: u16, k: u16) -
     let x = records::record_at(rule, i);
     let kind = x.kind;
     match kind {
-        DATUM_RECORD => given(datum(x.op, x.p), k),
+        DATUM_RECORD => given(datum(x), k),
         VARIABLE_RECORD => given(find(store, e, x.p), k),
         PROCEDURE_RECORD => given(closure(i, e), k),
         CALL_RECORD => {
@@ -177,19 +180,19 @@ fn bind(store: &mut [u8], rule: &[u8], d: u16, p: u16, q: u16, e: u16, k: u16) -
 
 // A call of f with the argument v: an error if f is no procedure.
 fn apply(store: &mut [u8], rule: &[u8], d: u16, f: Held, v: Held, k: u16) -> Ran
-    requires { ⌜ (f .link ≤ k) × (v .link ≤ k) ⌝ }
+    requires { ⌜ (linkOf f ≤ k) × (linkOf v ≤ k) ⌝ }
     ensures { λ r. ⌜ Runs (callIn (now (store .entry)) (now (rule .entry)) d f v k) (now (store .entry)) k r (now (store .exit)) ⌝ }
 {
     if f.sort != PROCEDURE_TERM {
         return stopped(ERROR_END, k);
     }
-    let x = records::record_at(rule, f.number);
-    run_under(store, rule, d, x.p, v, f.link, k)
+    let x = records::record_at(rule, f.first);
+    run_under(store, rule, d, x.p, v, link(f), k)
 }
 
 // Record i with v bound above the chain e, which takes a place.
 fn run_under(store: &mut [u8], rule: &[u8], d: u16, i: u16, v: Held, e: u16, k: u16) -> Ran
-    requires { ⌜ (v .link ≤ k) × (e ≤ k) ⌝ }
+    requires { ⌜ (linkOf v ≤ k) × (e ≤ k) ⌝ }
     ensures { λ r. ⌜ Runs (underIn (now (store .entry)) (now (rule .entry)) d i v e k) (now (store .entry)) k r (now (store .exit)) ⌝ }
 {
     if k < places(store.len()) {
@@ -201,7 +204,7 @@ fn run_under(store: &mut [u8], rule: &[u8], d: u16, i: u16, v: Held, e: u16, k: 
 
 // An operator of values: on what is no word the codes 1 to 12 are an error.
 fn operator(op: u8, x: Held, y: Held, k: u16) -> Ran
-    ensures { λ r. ⌜ (storedBy shown r ≡ ended (operatorRun op (shown x) (shown y)) k) × ((r .value .link ≡ 0) × (r .taken ≡ k)) ⌝ }
+    ensures { λ r. ⌜ (storedBy shown r ≡ ended (operatorRun op (shown x) (shown y)) k) × ((linkOf (r .value) ≡ 0) × (r .taken ≡ k)) ⌝ }
 {
     if op < NOT_CODE {
         if on_words(op, x, y) {
@@ -230,31 +233,31 @@ fn on_words(op: u8, x: Held, y: Held) -> bool
 }
 
 // What a code from 1 to 12 gives on words.
-fn operation(op: u8, x: u16, y: u16) -> Held
-    ensures { λ r. ⌜ (shown r ≡ operationValue op x y) × (r .link ≡ 0) ⌝ }
+fn operation(op: u8, x: Word, y: Word) -> Held
+    ensures { λ r. ⌜ (shown r ≡ operationValue op x y) × (linkOf r ≡ 0) ⌝ }
 {
     let n = operators::operate(op, x, y);
     if operators::gives_truth(op) {
-        return plain(TRUTH_TERM, n);
+        return truth(n == 1);
     }
-    plain(WORD_TERM, n)
+    word_value(n)
 }
 
-// A datum: the word p, or a truth.
-fn datum(op: u8, p: u16) -> Held
-    ensures { λ r. ⌜ (shown r ≡ datumValue op p) × (r .link ≡ 0) ⌝ }
+// A datum: a word, or a truth.
+fn datum(x: Record) -> Held
+    ensures { λ r. ⌜ (shown r ≡ datumValue (x .op) (datumWord x)) × (linkOf r ≡ 0) ⌝ }
 {
-    if op == WORD_DATUM {
-        return plain(WORD_TERM, p);
+    if x.op == WORD_DATUM {
+        return word_value(records::datum_word(x));
     }
-    plain(TRUTH_TERM, op as u16)
+    truth(x.op == TRUE_DATUM)
 }
 
 fn is_false(v: Held) -> bool
     ensures { λ r. ⌜ r ≡ isFalse (shown v) ⌝ }
 {
     if v.sort == TRUTH_TERM {
-        v.number != 1
+        v.first != 1
     } else {
         false
     }
@@ -273,41 +276,58 @@ fn is_procedure(v: Held) -> bool
 }
 
 // The word; 0 of what is none.
-fn word_in(v: Held) -> u16
+fn word_in(v: Held) -> Word
     ensures { λ r. ⌜ r ≡ wordIn (shown v) ⌝ }
 {
-    if v.sort == WORD_TERM { v.number } else { 0 }
+    if v.sort == WORD_TERM {
+        words::join(v.first, v.second)
+    } else {
+        0
+    }
+}
+
+// The chain of a procedure's bindings; the empty one of any other value.
+fn link(v: Held) -> u16
+    ensures { λ r. ⌜ r ≡ linkOf v ⌝ }
+{
+    if v.sort == PROCEDURE_TERM {
+        v.second
+    } else {
+        0
+    }
 }
 
 fn truth(b: bool) -> Held
-    ensures { λ r. ⌜ (shown r ≡ «truth-of» b) × (r .link ≡ 0) ⌝ }
+    ensures { λ r. ⌜ (shown r ≡ «truth-of» b) × (linkOf r ≡ 0) ⌝ }
 {
     if b {
-        plain(TRUTH_TERM, 1)
+        hold(TRUTH_TERM, 1, 0)
     } else {
-        plain(TRUTH_TERM, 0)
+        hold(TRUTH_TERM, 0, 0)
     }
 }
 
-// A value that is no procedure.
-fn plain(sort: u8, number: u16) -> Held
-    ensures { λ r. ⌜ r ≡ record { sort = sort; number = number; link = 0 } ⌝ }
+fn word_value(w: Word) -> Held
+    ensures { λ r. ⌜ (shown r ≡ «word-of» w) × (linkOf r ≡ 0) ⌝ }
 {
-    Held {
-        sort: sort,
-        number: number,
-        link: 0,
-    }
+    hold(WORD_TERM, words::low(w), words::high(w))
 }
 
 // The procedure of record i under the chain e.
 fn closure(i: u16, e: u16) -> Held
-    ensures { λ r. ⌜ r ≡ record { sort = procedureTerm; number = i; link = e } ⌝ }
+    ensures { λ r. ⌜ r ≡ record { sort = procedureTerm; first = i; second = e } ⌝ }
+{
+    hold(PROCEDURE_TERM, i, e)
+}
+
+// A value of these fields.
+fn hold(sort: u8, first: u16, second: u16) -> Held
+    ensures { λ r. ⌜ r ≡ record { sort = sort; first = first; second = second } ⌝ }
 {
     Held {
-        sort: PROCEDURE_TERM,
-        number: i,
-        link: e,
+        sort: sort,
+        first: first,
+        second: second,
     }
 }
 
@@ -327,7 +347,7 @@ fn stopped(how: u8, k: u16) -> Ran
 {
     Ran {
         how: how,
-        value: plain(0, 0),
+        value: hold(0, 0, 0),
         taken: k,
     }
 }
@@ -355,9 +375,9 @@ fn value_outcome(v: Held) -> Outcome
 {
     let sort = v.sort;
     match sort {
-        TRUTH_TERM => Outcome::Truth(v.number == 1),
-        WORD_TERM => Outcome::Word(v.number),
-        PROCEDURE_TERM => Outcome::Procedure(v.number),
+        TRUTH_TERM => Outcome::Truth(v.first == 1),
+        WORD_TERM => Outcome::Word(word_in(v)),
+        PROCEDURE_TERM => Outcome::Procedure(v.first as Word),
         _ => Outcome::Refused(NO_VALUE),
     }
 }
@@ -375,19 +395,18 @@ fn find(store: &[u8], e: u16, p: u16) -> Held
         at = next_at(store, at - 1);
         left -= 1;
     }
-    plain(0, 0)
+    hold(0, 0, 0)
 }
 
-// The value bound at place n.
+// The value bound at place n. Only a procedure has a chain in its second field.
 fn held_at(store: &[u8], n: u16) -> Held
     ensures { λ r. ⌜ r ≡ heldAt (now (store .entry)) n ⌝ }
 {
     let x = records::record_at(store, n);
-    Held {
-        sort: x.kind,
-        number: x.p,
-        link: lower(n, x.q),
+    if x.kind == PROCEDURE_TERM {
+        return hold(x.kind, x.p, lower(n, x.q));
     }
+    hold(x.kind, x.p, x.q)
 }
 
 // The chain after place n.
@@ -416,8 +435,8 @@ fn put_binding(store: &mut [u8], n: u16, v: Held, next: u16)
         Record {
             kind: v.sort,
             op: 0,
-            p: v.number,
-            q: v.link,
+            p: v.first,
+            q: v.second,
             r: next,
         },
     );

@@ -9,6 +9,7 @@ use states::Standing;
 ghost use mathlib.Core.Path.{_≡_};
 ghost use Prim.Native.Nat.{_≤_, _<_};
 ghost use lib.ListN.{take, replicate};
+ghost use Rattle.semantics.specs.Numbers.{leafLimit};
 ghost use Rattle.semantics.specs.Merge.{branchOf, valueStepOf, finishOf, mergeOf};
 ghost use Rattle.terms.specs.Gives.{Gives, from};
 ghost use Rattle.merge.specs.Branches.{noBranch};
@@ -56,7 +57,13 @@ pub struct Merged {
 }
 
 // The result of the first n branches, merged over the state x.
-pub fn merge(table: &mut [u8], count: u16, x: State, branches: [Branch; 64], n: usize) -> Merged
+pub fn merge(
+    table: &mut [u8],
+    count: u16,
+    x: State,
+    branches: [Branch; numbers::LEAF_LIMIT],
+    n: usize,
+) -> Merged
     ensures { λ r. ⌜ Gives (mergeOf x (from noBranch branches 0 n)) (now (table .entry)) count (r .refusal) (r .count) 0 (r .result) (now (table .exit)) ⌝ }
 {
     let m = merge_passes(table, count, x, branches, n);
@@ -146,8 +153,14 @@ pub fn merge_lent(results: &[Branch], pass: u8, m: Carried, table: &mut [u8]) ->
 }
 
 // One pass over the first n branches of an array, which it lends.
-fn merge_first(branches: [Branch; 64], n: usize, pass: u8, m: Carried, table: &mut [u8]) -> Carried
-    requires { ⌜ n ≤ 64 ⌝ }
+fn merge_first(
+    branches: [Branch; numbers::LEAF_LIMIT],
+    n: usize,
+    pass: u8,
+    m: Carried,
+    table: &mut [u8],
+) -> Carried
+    requires { ⌜ n ≤ leafLimit ⌝ }
     ensures { λ r. ⌜ Carries m (now (table .entry)) (passOf pass (take n branches)) r (now (table .exit)) ⌝ }
 {
     merge_lent(&branches[..n], pass, m, table)
@@ -167,7 +180,13 @@ fn merge_blank(n: usize, pass: u8, m: Carried, table: &mut [u8]) -> Carried
 }
 
 // One pass over the first n branches, of which those past the array are blank.
-fn merge_pass(branches: [Branch; 64], n: usize, pass: u8, m: Carried, table: &mut [u8]) -> Carried
+fn merge_pass(
+    branches: [Branch; numbers::LEAF_LIMIT],
+    n: usize,
+    pass: u8,
+    m: Carried,
+    table: &mut [u8],
+) -> Carried
     ensures { λ r. ⌜ Carries m (now (table .entry)) (passOf pass (from noBranch branches 0 n)) r (now (table .exit)) ⌝ }
 {
     if n <= numbers::LEAF_LIMIT {
@@ -182,7 +201,13 @@ fn merge_pass(branches: [Branch; 64], n: usize, pass: u8, m: Carried, table: &mu
 }
 
 // The three passes, one after another.
-fn merge_passes(table: &mut [u8], count: u16, x: State, branches: [Branch; 64], n: usize) -> Carried
+fn merge_passes(
+    table: &mut [u8],
+    count: u16,
+    x: State,
+    branches: [Branch; numbers::LEAF_LIMIT],
+    n: usize,
+) -> Carried
     ensures { λ r. ⌜ Gives (mergedOf x (from noBranch branches 0 n)) (now (table .entry)) count (r .refusal) (r .count) 0 (r .state, r .found) (now (table .exit)) ⌝ }
 {
     let start = Carried {

@@ -1,21 +1,19 @@
 -- What an opening leaves: false and true first, then well-formed terms, with input 0's binding. Assumes nothing.
 use mathlib.Core.Path.{_≡_, refl, _∙_}
-use mathlib.Core.Bool.{true, false}
+use mathlib.Core.Bool.{true}
 use mathlib.Core.List.{List, [], _∷_}
 use Prim.Native.Nat.{ℕ}
 use native.Mathlib.Omega.{arith}
 use lib.ListN.{length}
-use Rattle.notation.specs.Notation.{if_then_else_, if_equals_then_else_}
+use Rattle.notation.specs.Notation.{if_equals_then_else_}
 use Rattle.semantics.specs.declared.Term.{Term}
 use Rattle.semantics.specs.declared.Input.{Input}
 use Rattle.semantics.specs.Numbers.{truthTerm, bindingTerm, inputCount, mostTable}
 use Rattle.semantics.specs.Terms.{term, sameOf, findOf, laidOut, wellFormed}
-use Rattle.semantics.specs.Rules.{every}
 use Rattle.semantics.specs.Steps.{settingOf, Got, deeper, _>>=_, makeOf}
-use Rattle.semantics.specs.Opening.{inputTaken, openingOf, opening}
+use Rattle.semantics.specs.Opening.{openingOf, opening}
 use Rattle.terms.specs.Search.{codeSetting}
 use Rattle.typing.proofs.Grown.{Grown, Sort}
-use Rattle.typing.proofs.Formed.{never, by-test}
 use Rattle.opening.specs.Openings.{openFrom, openAll}
 use Rattle.opening.proofs.Order.{same-opening}
 use Rattle.opening.proofs.Room.{Roomy, roomy, input-roomy, from-roomy}
@@ -36,14 +34,12 @@ from-constants : (xs : List Input) → openAll xs (settingOf mostTable) [] ≡ d
 unfolding openAll _>>=_ makeOf findOf sameOf
 from-constants xs = refl
 
-pub begins : (x : Input) (xs : List Input) → every inputTaken (x ∷ xs) ≡ true → length (x ∷ xs) ≡ inputCount → Begins (x ∷ xs)
-unfolding opening every if_then_else_
-begins x xs h n =
-    by-test (inputTaken x) (every inputTaken xs) false h
-    (λ p q. go (openFrom 0 (x ∷ xs) (codeSetting mostTable) constants) (openFrom 0 (x ∷ xs) (settingOf mostTable) constants) (same-opening (x ∷ xs) (settingOf mostTable) [] ∙ from-constants (x ∷ xs))
-    (input-roomy mostTable 0 x xs constants p (omega arith) constants-formed (omega arith) (omega arith)
-    (λ us w b. from-roomy mostTable 1 xs us q (omega arith) w (omega arith) (omega arith))))
-    (λ p q. never q)
+pub begins : (x : Input) (xs : List Input) → length (x ∷ xs) ≡ inputCount → Begins (x ∷ xs)
+unfolding opening
+begins x xs n =
+    go (openFrom 0 (x ∷ xs) (codeSetting mostTable) constants) (openFrom 0 (x ∷ xs) (settingOf mostTable) constants) (same-opening (x ∷ xs) (settingOf mostTable) [] ∙ from-constants (x ∷ xs))
+    (input-roomy mostTable 0 x xs constants (omega arith) constants-formed (omega arith) (omega arith)
+    (λ us w b. from-roomy mostTable 1 xs us (omega arith) w (omega arith) (omega arith)))
   where
     go : {k : ℕ} (y z : Got ℕ) → openingOf (x ∷ xs) (settingOf mostTable) [] ≡ deeper 0 (deeper 0 z) → Roomy k constants (Sort bindingTerm) y z → Begins (x ∷ xs)
     go y z e (roomy g w b q) = record { base = rw e g; environment = rw e q; formed = rw e w }

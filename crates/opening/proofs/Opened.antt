@@ -76,7 +76,7 @@ module _ (xs : List Input) (s w : List ℕ) (ew : w ≡ wiped s 0) (z : badTable
       let q = sized (length s) z in
       let a = q .least in let b = q .most in
       rw (same-opening xs (settingOf mostTable) []) (go (openAll xs (codeSetting (length w)) []) (openAll xs (settingOf mostTable) [])
-      (all-roomy (length w) xs t n (rw size (omega arith))) (g .is))
+      (all-roomy (length w) xs n (rw size (omega arith))) (g .is))
     where
       go : (x m : Got ℕ) → Roomy 34 [] Link x m → shown r (termsIn y c) e 0 ≡ x → termsIn y c ≡ openingFrom m .terms
       go x m (roomy {us = us} {a = a} _ _ _ _) h = answered r (termsIn y c) us e a h .same
@@ -87,7 +87,7 @@ module _ (xs : List Input) (s w : List ℕ) (ew : w ≡ wiped s 0) (z : badTable
       let q = sized (length s) z in
       let a = q .least in let b = q .most in
       rw (same-opening xs (settingOf mostTable) []) (go (openAll xs (codeSetting (length w)) []) (openAll xs (settingOf mostTable) [])
-      (all-roomy (length w) xs t n (rw size (omega arith))) (g .is))
+      (all-roomy (length w) xs n (rw size (omega arith))) (g .is))
     where
       go : (x m : Got ℕ) → Roomy 34 [] Link x m → shown r (termsIn y c) e 0 ≡ x → e ≡ openingFrom m .environment
       go x m (roomy {us = us} {a = a} _ _ _ _) h = answered r (termsIn y c) us e a h .number

@@ -77,17 +77,11 @@ fn input_term(i: u16, x: Input) -> Term
         numbers::CONSTANT_TRUTH => Term {
             kind: numbers::TRUTH_TERM,
             op: 0,
-            a: x.value,
+            a: terms::truth_number(x.value),
             b: 0,
             c: 0,
         },
-        numbers::CONSTANT_WORD => Term {
-            kind: numbers::WORD_TERM,
-            op: 0,
-            a: x.value,
-            b: 0,
-            c: 0,
-        },
+        numbers::CONSTANT_WORD => terms::word_term(x.value),
         numbers::FREE_TRUTH => Term {
             kind: numbers::FREE_TRUTH_TERM,
             op: 0,

@@ -1,10 +1,12 @@
 // The operations that read a result and that run a rule plainly, whole: the tests in the order of document 01, then
 // the work. The work list and the store are zero on every return. No public function has a `requires`.
+use reader::Place;
 use semantics::Input;
 use semantics::Outcome;
 use semantics::Result;
 use semantics::Session;
 use semantics::numbers;
+use words::Word;
 ghost use mathlib.Core.Path.{_≡_};
 ghost use lib.ListN.{length, replicate};
 ghost use Rattle.semantics.specs.declared.Outcome.the-variants.{Refused};
@@ -13,7 +15,7 @@ ghost use Rattle.semantics.specs.Reading.{readOf};
 ghost use Rattle.semantics.specs.PlainRun.{runPlainlyOf};
 
 // A refused reading.
-fn unread(refusal: u8, work: &mut [u32]) -> Outcome
+fn unread(refusal: u8, work: &mut [Place]) -> Outcome
     ensures { λ r. ⌜ r ≡ Refused refusal ⌝ ∗ ⌜ now (work .exit) ≡ replicate (length (now (work .entry))) 0 ⌝ }
 {
     reader::wipe(work);
@@ -24,9 +26,9 @@ fn unread(refusal: u8, work: &mut [u32]) -> Outcome
 pub fn read(
     session: Session,
     table: &[u8],
-    numbers: [u16; 16],
+    numbers: [Word; 16],
     result: Result,
-    work: &mut [u32],
+    work: &mut [Place],
 ) -> Outcome
     ensures { λ r. ⌜ (r, now (work .exit)) ≡ readOf session (now (table .entry)) numbers result (now (work .entry)) ⌝ }
 {
@@ -64,7 +66,7 @@ fn unrun(refusal: u8, store: &mut [u8]) -> Outcome
 // What a rule comes to when it is run over a store of places; or a refusal, by 2, 13, 4 to 8, 16 or 12.
 pub fn run_plainly(
     inputs: [Input; 16],
-    numbers: [u16; 16],
+    numbers: [Word; 16],
     rule: &[u8],
     allowance: u16,
     store: &mut [u8],

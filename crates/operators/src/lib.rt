@@ -1,5 +1,6 @@
 // The operators by their codes: the one constant table of operand counts and result kinds, and what the codes
 // 1 to 12 give on words. No public function has a `requires`.
+use words::Word;
 ghost use mathlib.Core.Path.{_≡_};
 ghost use Rattle.notation.specs.Notation.{bit as «bit-of»};
 ghost use Rattle.operators.specs.Operators.{rowOf, operandsOf, givesTruthOf, operateOf};
@@ -45,7 +46,7 @@ const OPERATORS: [u8; 36] = [
 ];
 
 // A truth as a number.
-fn bit(b: bool) -> u16
+fn bit(b: bool) -> Word
     ensures { λ r. ⌜ r ≡ «bit-of» b ⌝ }
 {
     if b { 1 } else { 0 }
@@ -53,7 +54,7 @@ fn bit(b: bool) -> u16
 
 // What the operator with a code from 1 to 12 gives on two words: a word, or a truth as 0 or 1. Any other code
 // is taken for 12.
-pub fn operate(op: u8, x: u16, y: u16) -> u16
+pub fn operate(op: u8, x: Word, y: Word) -> Word
     ensures { λ r. ⌜ r ≡ operateOf op x y ⌝ }
 {
     match op {

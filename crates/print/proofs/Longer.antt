@@ -1,6 +1,6 @@
 -- What stands past one byte more than the inputs and the longest rule makes no difference, so that the program need not read it: a rule that
 -- is cut there is still too long. Assumes nothing.
-use mathlib.Core.Path.{_≡_, refl, ap, _∙_}
+use mathlib.Core.Path.{_≡_, refl, ap, ap₂, _∙_}
 use mathlib.Core.Bool.{Bool, true, false}
 use mathlib.Core.List.{List}
 use Prim.Native.Nat.{ℕ, zero, suc, _+_, _*_, _<_, _≤_}
@@ -9,15 +9,17 @@ use lib.Dec.{leb, eqb}
 use lib.ListN.{length, take, drop, getD, replicate, length-drop}
 use lib.Seq.{take-all, length-take-le, getD-take}
 use borrow.Author.Tests.{leb-true, leb-false, le-leb, lt-ltb}
+use Rattle.words.specs.Words.{wordBytes, joinOf}
 use Rattle.notation.specs.Notation.{with, if_then_else_, if_equals_then_else_, if_below_then_else_, unless_then_else_}
 use Rattle.semantics.specs.declared.Session.{Session}
 use Rattle.semantics.specs.declared.Opened.{Opened}
 use Rattle.semantics.specs.Numbers.{inputCount, ruleBytes, mostTable, misfit, ruleSize}
+use Rattle.semantics.specs.Records.{pairAt, wordAt}
 use Rattle.semantics.specs.Rules.{upTo, badRuleSize, ruleRefusalOf}
 use Rattle.semantics.specs.Opening.{openOf}
 use Rattle.semantics.specs.Fits.{fitsOf}
 use Rattle.semantics.specs.Evaluate.{refusedBy, evaluateOf}
-use Rattle.semantics.specs.Print.{printAllowance, inputBytes, inputsFrom, inputsWhole, evaluationLines, openingLines, printedOf}
+use Rattle.semantics.specs.Print.{printAllowance, inputSize, inputBytes, inputsFrom, inputZeroed, inputsWhole, evaluationLines, openingLines, printedOf}
 use Rattle.print.specs.Written.{linesText, writtenOf}
 use Rattle.print.specs.Read.{Read}
 
@@ -58,6 +60,13 @@ module _ (n : ℕ) (s : List ℕ) (enough : inputBytes + ruleBytes < n) (long : 
   cut-at : (i : ℕ) → i < inputBytes → getD cut i 0 ≡ getD s i 0
   cut-at i h = getD-take n s i 0 (omega arith)
 
+  -- a word that the inputs hold whole
+  word-cut : (i : ℕ) → i + wordBytes ≤ inputBytes → wordAt cut i ≡ wordAt s i
+  word-cut i h = ap₂ joinOf (pair-cut i (omega arith)) (pair-cut (i + 2) (omega arith))
+    where
+      pair-cut : (j : ℕ) → j + 1 < n → pairAt cut j ≡ pairAt s j
+      pair-cut j l = rw (getD-take n s j 0 (omega arith), getD-take n s (j + 1) 0 l)
+
   cut-length : length cut ≡ n
   cut-length = length-take-le n s (omega arith)
 
@@ -69,14 +78,14 @@ module _ (n : ℕ) (s : List ℕ) (enough : inputBytes + ruleBytes < n) (long : 
       let a : inputBytes ≤ length cut = omega arith in
       let b : inputBytes ≤ length s = omega arith in
       rw (le-leb _ _ a, le-leb _ _ b)
-      (up-same inputCount (λ i. eqb (getD cut (4 * i + 1) 0) 0) (λ i. eqb (getD s (4 * i + 1) 0) 0) λ i h. rw (cut-at (4 * i + 1) (omega arith)))
+      (up-same inputCount (inputZeroed cut) (inputZeroed s) λ i h. rw (cut-at (inputSize * i + 1) (omega arith)))
 
   -- k inputs from number i on
-  same-inputs : (i k : ℕ) → 4 * (i + k) ≤ inputBytes → inputsFrom cut i k ≡ inputsFrom s i k
+  same-inputs : (i k : ℕ) → inputSize * (i + k) ≤ inputBytes → inputsFrom cut i k ≡ inputsFrom s i k
   unfolding inputsFrom
   same-inputs i zero h = refl
   same-inputs i (suc k) h =
-      rw (cut-at (4 * i) (omega arith), cut-at (4 * i + 2) (omega arith), cut-at (4 * i + 2 + 1) (omega arith), same-inputs (suc i) k (omega arith))
+      rw (cut-at (inputSize * i) (omega arith), word-cut (inputSize * i + wordBytes) (omega arith), same-inputs (suc i) k (omega arith))
 
   -- what follows an opening
   same-opening : (o : Opened × List ℕ) → openingLines cut o ≡ openingLines s o

@@ -10,6 +10,7 @@ use lib.Seq.{getD-set-same, getD-set-other}
 use lib.Dec.{eqb, ltb}
 use borrow.Author.Fill.{fill-more}
 use borrow.Author.Tests.{eqb-true, eqb-false, ltb-true, ltb-false, lt-ltb, le-ltb}
+use Rattle.words.specs.Words.{wordLimit}
 use Rattle.notation.specs.Notation.{pick, with, if_equals_then_else_, if_below_then_else_}
 use Rattle.semantics.specs.declared.Term.{Term}
 use Rattle.semantics.specs.declared.Result.{Result}
@@ -25,11 +26,11 @@ use Rattle.reader.specs.Reader.{unpackedOf, lowerOf, Reads, outcomeIn}
 -- ---- a place
 
 -- a reading comes back as it was packed
-pub packed : (k n : ℕ) → k < 256 → n < 65536 → unpackedOf (65536 * k + n) ≡ readingOf k n
+pub packed : (k n : ℕ) → k < 256 → n < wordLimit → unpackedOf (wordLimit * k + n) ≡ readingOf k n
 unfolding unpackedOf
 packed k n h l =
-    let p : (65536 * k + n) / 65536 % 256 ≡ k = omega arith in
-    let q : (65536 * k + n) % 65536 ≡ n = omega arith in
+    let p : (wordLimit * k + n) / wordLimit % 256 ≡ k = omega arith in
+    let q : (wordLimit * k + n) % wordLimit ≡ n = omega arith in
     rw (p, q)
 
 -- what is read below i, and past it

@@ -5,6 +5,7 @@ use mathlib.Core.List.{List}
 use Prim.Native.Nat.{ℕ, _/_, _%_}
 use lib.Dec.{ltb}
 use lib.ListN.{getD}
+use Rattle.words.specs.Words.{wordLimit}
 use Rattle.notation.specs.Notation.{if_equals_then_else_, if_below_then_else_}
 use Rattle.semantics.specs.declared.Input.{Input}
 use Rattle.semantics.specs.declared.Result.{Result}
@@ -23,9 +24,9 @@ numberTaken x n = if x .kind equals freeTruth then ltb n 2 else true
 unfoldable pub outcomeIn : List ℕ → ℕ → List ℕ → Result → ℕ → Outcome
 outcomeIn s count numbers r l = if l below count then Refused workShort else readIn (readings numbers (termsIn s count)) r
 
--- the reading that a place of the work list holds: 65,536 times its sort, and its number
+-- the reading that a place of the work list holds: its sort, counted in words, and its number
 unfoldable pub unpackedOf : ℕ → Reading
-unpackedOf n = readingOf (n / 65536 % 256) (n % 65536)
+unpackedOf n = readingOf (n / wordLimit % 256) (n % wordLimit)
 
 -- what the term k reads as, of the first i in a work list
 unfoldable pub lowerOf : List ℕ → ℕ → ℕ → Reading

@@ -7,6 +7,9 @@ use semantics::Reading;
 use semantics::Result;
 use semantics::Term;
 use semantics::numbers;
+use words::WORDS;
+use words::Wide;
+use words::Word;
 ghost use mathlib.Core.Path.{_≡_};
 ghost use mathlib.Core.Bool.{_&&_, _||_, not};
 ghost use Prim.Native.Nat.{_≤_};
@@ -15,11 +18,11 @@ ghost use Rattle.semantics.specs.Terms.{termsIn, namesTruth, namesValue};
 ghost use Rattle.semantics.specs.Reading.{truthReading, isTrue, isTruth, isWord, passes as «passes-test», resultReading, operandsAreWords, operationReading, operatorReading, termReading, valueOutcome, resultOutcome, numbersTaken, resultTaken};
 ghost use Rattle.reader.specs.Reader.{numberTaken, outcomeIn, unpackedOf, lowerOf, Reads};
 
-// How many words there are: what a sort counts in a place of the work list.
-const WORDS: u32 = 65536;
+// A place of the work list: the sort of a reading, counted in words, and its number.
+pub type Place = Wide;
 
 // No free truth is given a number over 1.
-pub fn numbers_taken(inputs: [Input; 16], numbers: [u16; 16]) -> bool
+pub fn numbers_taken(inputs: [Input; 16], numbers: [Word; 16]) -> bool
     ensures { λ r. ⌜ r ≡ numbersTaken inputs numbers ⌝ }
 {
     let mut i: u16 = 0;
@@ -34,7 +37,7 @@ pub fn numbers_taken(inputs: [Input; 16], numbers: [u16; 16]) -> bool
 }
 
 // Any number will do for an input that is no free truth.
-fn number_taken(x: Input, n: u16) -> bool
+fn number_taken(x: Input, n: Word) -> bool
     ensures { λ r. ⌜ r ≡ numberTaken x n ⌝ }
 {
     if x.kind == numbers::FREE_TRUTH {
@@ -88,9 +91,9 @@ fn names_value(table: &[u8], count: u16, i: u16) -> bool
 pub fn read_result(
     table: &[u8],
     count: u16,
-    numbers: [u16; 16],
+    numbers: [Word; 16],
     result: Result,
-    work: &mut [u32],
+    work: &mut [Place],
 ) -> Outcome
     ensures { λ r. ⌜ r ≡ outcomeIn (now (table .entry)) count numbers result (length (now (work .entry))) ⌝ ∗ ⌜ now (work .exit) ≡ replicate (length (now (work .entry))) 0 ⌝ }
 {
@@ -107,7 +110,7 @@ pub fn read_result(
 }
 
 // Every place is zero then.
-pub fn wipe(work: &mut [u32])
+pub fn wipe(work: &mut [Place])
     ensures { λ _. ⌜ now (work .exit) ≡ replicate (length (now (work .entry))) 0 ⌝ }
 {
     let mut k: usize = 0;
@@ -118,7 +121,7 @@ pub fn wipe(work: &mut [u32])
 }
 
 // What each term reads as, from the first on: a term is read from lower ones.
-fn fill(table: &[u8], count: u16, numbers: [u16; 16], work: &mut [u32])
+fn fill(table: &[u8], count: u16, numbers: [Word; 16], work: &mut [Place])
     requires { ⌜ count ≤ length (now work) ⌝ }
     ensures { λ _. ⌜ Reads numbers (now (table .entry)) count (now (work .exit)) ⌝ }
 {
@@ -135,7 +138,7 @@ fn fill(table: &[u8], count: u16, numbers: [u16; 16], work: &mut [u32])
 }
 
 // What term k reads as, where it is below i; nothing where it is not.
-fn lower(work: &[u32], i: u16, k: u16) -> Reading
+fn lower(work: &[Place], i: u16, k: u16) -> Reading
     ensures { λ r. ⌜ r ≡ lowerOf (now (work .entry)) i k ⌝ }
 {
     if k < i {
@@ -148,35 +151,35 @@ fn lower(work: &[u32], i: u16, k: u16) -> Reading
 }
 
 // A reading as it is kept in the work list.
-fn pack(v: Reading) -> u32
+fn pack(v: Reading) -> Place
     ensures { λ r. ⌜ unpackedOf r ≡ v ⌝ }
 {
-    WORDS * (v.sort as u32) + (v.number as u32)
+    WORDS * (v.sort as Place) + (v.number as Place)
 }
 
 // The reading that was packed; 0 is nothing.
-fn unpack(n: u32) -> Reading
+fn unpack(n: Place) -> Reading
     ensures { λ r. ⌜ r ≡ unpackedOf n ⌝ }
 {
     Reading {
         sort: (n / WORDS % 256) as u8,
-        number: (n % WORDS) as u16,
+        number: (n % WORDS) as Word,
     }
 }
 
 // A term, of what a, b and c read as. A binding reads as nothing.
-fn term_reading(t: Term, numbers: [u16; 16], x: Reading, y: Reading, z: Reading) -> Reading
+fn term_reading(t: Term, numbers: [Word; 16], x: Reading, y: Reading, z: Reading) -> Reading
     ensures { λ r. ⌜ r ≡ termReading numbers t x y z ⌝ }
 {
     let k = t.kind;
     match k {
         numbers::TRUTH_TERM => Reading {
             sort: numbers::TRUTH_TERM,
-            number: t.a,
+            number: t.a as Word,
         },
         numbers::WORD_TERM => Reading {
             sort: numbers::WORD_TERM,
-            number: t.a,
+            number: terms::word(t),
         },
         numbers::FREE_TRUTH_TERM => Reading {
             sort: numbers::TRUTH_TERM,
@@ -190,14 +193,14 @@ fn term_reading(t: Term, numbers: [u16; 16], x: Reading, y: Reading, z: Reading)
         numbers::CHOICE_TERM => if is_true(x) { y } else { z },
         numbers::PROCEDURE_TERM => Reading {
             sort: numbers::PROCEDURE_TERM,
-            number: t.a,
+            number: t.a as Word,
         },
         _ => Reading { sort: 0, number: 0 },
     }
 }
 
 // The number of an input; 0 past the last.
-fn number(numbers: [u16; 16], i: u16) -> u16
+fn number(numbers: [Word; 16], i: u16) -> Word
     ensures { λ r. ⌜ r ≡ getD numbers i 0 ⌝ }
 {
     if i < numbers::INPUT_COUNT {
@@ -255,7 +258,7 @@ fn operands_are_words(op: u8, x: Reading, y: Reading) -> bool
 }
 
 // A number as the operator gives it: a truth or a word.
-fn result_reading(op: u8, w: u16) -> Reading
+fn result_reading(op: u8, w: Word) -> Reading
     ensures { λ r. ⌜ r ≡ resultReading op w ⌝ }
 {
     if operators::gives_truth(op) {

@@ -2,10 +2,11 @@
 // slice whatever its length. No function has a `requires`.
 use semantics::Record;
 use semantics::Term;
+use words::Word;
 ghost use mathlib.Core.Path.{_≡_};
 ghost use Prim.Native.Nat.{_+_, _*_};
 ghost use lib.ListN.{getD};
-ghost use Rattle.semantics.specs.Records.{recordAt};
+ghost use Rattle.semantics.specs.Records.{recordAt, datumWord, fieldOf};
 ghost use Rattle.semantics.specs.Terms.{termAt};
 
 // The byte at a position; 0 past the end.
@@ -34,6 +35,20 @@ pub fn record_at(s: &[u8], i: u16) -> Record
         q: pair(byte(s, at + 4), byte(s, at + 4 + 1)),
         r: pair(byte(s, at + 6), byte(s, at + 6 + 1)),
     }
+}
+
+// The word of a datum.
+pub fn datum_word(x: Record) -> Word
+    ensures { λ r. ⌜ r ≡ datumWord x ⌝ }
+{
+    words::join(x.p, x.q)
+}
+
+// Field i of a record or a term that uses the first u: any value where it is used, and 0 where it is not.
+pub fn field(u: u8, i: u8, v: u16) -> bool
+    ensures { λ r. ⌜ r ≡ fieldOf u i v ⌝ }
+{
+    if i < u { true } else { v == 0 }
 }
 
 // The term with a number, of a table: cut in the same way.

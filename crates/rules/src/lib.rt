@@ -26,7 +26,7 @@ ghost use lib.Dec.{ltb};
 ghost use lib.ListN.{set, take};
 ghost use Rattle.semantics.specs.Numbers.{recordLimit};
 ghost use Rattle.semantics.specs.Records.{recordAt};
-ghost use Rattle.semantics.specs.Rules.{upTo, every, badRuleSize, usesOf, fieldOf, shapedOf, partsOf, insideOf, onceOf};
+ghost use Rattle.semantics.specs.Rules.{upTo, every, badRuleSize, usesOf, shapedOf, partsOf, insideOf, onceOf};
 ghost use Rattle.semantics.specs.Rules.{linkedOf, placesOf, toldOf, scopedOf, testsOf, ruleRefusalOf};
 ghost use Rattle.rules.specs.Passes.{partOf, childrenOf, OneMore, bumpedOf, markedOf};
 
@@ -107,17 +107,10 @@ fn shaped(x: Record) -> bool
     if u == NO_SUCH {
         return false;
     }
-    if !field(u, 0, x.p) {
+    if !records::field(u, 0, x.p) {
         return false;
     }
-    field(u, 1, x.q) && field(u, 2, x.r)
-}
-
-// Field i of a record that uses the first u: any value where it is used, and 0 where it is not.
-fn field(u: u8, i: u8, v: u16) -> bool
-    ensures { λ r. ⌜ r ≡ fieldOf u i v ⌝ }
-{
-    if i < u { true } else { v == 0 }
+    records::field(u, 1, x.q) && records::field(u, 2, x.r)
 }
 
 // How many of p, q and r, in this order, a record of its kind and op uses.
@@ -129,7 +122,11 @@ fn uses(x: Record) -> u8
         if x.op < WORD_DATUM {
             return 0;
         }
-        return if x.op == WORD_DATUM { 1 } else { NO_SUCH };
+        return if x.op == WORD_DATUM {
+            words::FIELDS
+        } else {
+            NO_SUCH
+        };
     }
     if k == OPERATOR_RECORD {
         if IS_PROCEDURE_CODE < x.op {

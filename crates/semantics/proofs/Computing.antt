@@ -3,6 +3,7 @@
 use Prim.Native.Nat.{ℕ}
 use lib.Count.{ones, onesIn, leadingZeros}
 use Rattle.notation.specs.Notation as Notation
+use Rattle.words.specs.Words as Words
 use Rattle.operators.specs.Operators as Operators
 use Rattle.semantics.specs.Records as Records
 use Rattle.semantics.specs.Rules as Rules
@@ -26,20 +27,24 @@ unfoldable notation : ℕ
 unfolding Notation.if_then_else_ Notation.if_equals_then_else_ Notation.if_below_then_else_ Notation.unless_then_else_ Notation.with
 notation = 0
 
+unfoldable words : ℕ
+unfolding Words.lowOf Words.highOf Words.joinOf
+words = 0
+
 unfoldable operators : ℕ
 unfolding ones onesIn leadingZeros Operators.rowOf Operators.operandsOf Operators.givesTruthOf Operators.operateOf
 operators = 0
 
 unfoldable records : ℕ
-unfolding Records.recordAt
+unfolding Records.recordAt Records.fieldOf
 records = 0
 
 unfoldable rules : ℕ
-unfolding Rules.upTo Rules.every Rules.badRuleSize Rules.usesOf Rules.fieldOf Rules.shapedOf Rules.partsOf Rules.insideOf Rules.timesIn Rules.timesBelow Rules.onceOf Rules.linkedOf Rules.placesOf Rules.toldOf Rules.bindingsBelow Rules.scopedOf Rules.testsOf Rules.ruleRefusalOf
+unfolding Rules.upTo Rules.every Rules.badRuleSize Rules.usesOf Rules.shapedOf Rules.partsOf Rules.insideOf Rules.timesIn Rules.timesBelow Rules.onceOf Rules.linkedOf Rules.placesOf Rules.toldOf Rules.bindingsBelow Rules.scopedOf Rules.testsOf Rules.ruleRefusalOf
 rules = 0
 
 unfoldable terms : ℕ
-unfolding Terms.termAt Terms.bytesOf Terms.termsIn Terms.put Terms.imageOf Terms.at Terms.sameOf Terms.findOf Terms.sortOf Terms.knownOf Terms.namesTruth Terms.namesChoice Terms.namesBinding Terms.namesValue Terms.operandsLaidOut Terms.laidOut Terms.wellFormed
+unfolding Terms.truthNumber Terms.termAt Terms.bytesOf Terms.termsIn Terms.put Terms.imageOf Terms.at Terms.sameOf Terms.findOf Terms.sortOf Terms.knownOf Terms.namesTruth Terms.namesChoice Terms.namesBinding Terms.namesValue Terms.operandsLaidOut Terms.laidOut Terms.wellFormed
 terms = 0
 
 unfoldable steps : ℕ
@@ -99,5 +104,5 @@ unfolding Print.inputsFrom Print.inputsWhole Print.termLine Print.termLines Prin
 print = 0
 
 unfoldable pub computing : ℕ
-unfolding notation operators records rules terms steps factory opening states walk merge evaluation fits evaluate reading run plainRun history print
+unfolding notation words operators records rules terms steps factory opening states walk merge evaluation fits evaluate reading run plainRun history print
 computing = 0

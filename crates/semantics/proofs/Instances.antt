@@ -11,7 +11,7 @@ use Rattle.semantics.specs.declared.State.{State}
 use Rattle.semantics.specs.declared.Reading.{Reading as Read}
 use Rattle.semantics.specs.declared.Outcome.{Outcome}
 use Rattle.semantics.specs.declared.Outcome.the-variants.{Truth, Word, Error, Refused}
-use Rattle.semantics.specs.Numbers.{datumRecord, variableRecord, procedureRecord, callRecord, letRecord, ifRecord, abortRecord, errorRecord, falseDatum, wordDatum, wordTerm, procedureTerm, constantTruth, freeTruth, storeFull}
+use Rattle.semantics.specs.Numbers.{datumRecord, variableRecord, procedureRecord, callRecord, letRecord, ifRecord, abortRecord, errorRecord, falseDatum, wordDatum, procedureTerm, constantTruth, freeTruth, storeFull}
 use Rattle.semantics.proofs.Computing.{computing}
 use Rattle.semantics.specs.Terms as Terms
 use Rattle.semantics.specs.Opening as Opening
@@ -109,7 +109,7 @@ pub record Instances : Type 0 where
   pub no-target-called : sides 0 (desk (callOfEither ∷ [])) ≡ both Error
   -- "Giving a halted branch the value false in a merge.": the value is word 7 and no choice. No reading tells them apart, since S or T reads as
   -- false wherever a branch has halted.
-  pub halted-without-value : valueTerm (desk (sevenOrError ∷ [])) ≡ Terms.term wordTerm 0 7 0 0
+  pub halted-without-value : valueTerm (desk (sevenOrError ∷ [])) ≡ Terms.wordTermOf 7
   -- "Sharing a procedure term between two rules because record and bindings agree.": the second rule's has the count 1. No reading tells them
   -- apart, since no rule meets another's values.
   pub procedure-of-its-rule : valueTerm (desk (giving 7 ∷ giving 8 ∷ [])) ≡ Terms.term procedureTerm 0 0 18 1

@@ -1,4 +1,5 @@
 pub mod Every
+pub mod Fields
 pub mod Computing
 pub mod Instances
 pub mod Lasting

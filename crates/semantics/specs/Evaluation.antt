@@ -10,9 +10,9 @@ use Rattle.semantics.specs.declared.State.{State}
 use Rattle.semantics.specs.declared.Result.{Result}
 use Rattle.semantics.specs.declared.Leaf.{Leaf}
 use Rattle.semantics.specs.declared.Branch.{Branch}
-use Rattle.semantics.specs.Numbers.{datumRecord, variableRecord, procedureRecord, callRecord, operatorRecord, letRecord, ifRecord, abortRecord, wordDatum, notCode, isWordCode, wordTerm, procedureTerm, bindingTerm, falseNumber, depthSpent}
-use Rattle.semantics.specs.Records.{recordAt}
-use Rattle.semantics.specs.Terms.{term, at}
+use Rattle.semantics.specs.Numbers.{datumRecord, variableRecord, procedureRecord, callRecord, operatorRecord, letRecord, ifRecord, abortRecord, wordDatum, notCode, isWordCode, procedureTerm, bindingTerm, falseNumber, depthSpent}
+use Rattle.semantics.specs.Records.{recordAt, datumWord}
+use Rattle.semantics.specs.Terms.{term, wordTermOf, at}
 use Rattle.semantics.specs.Steps.{Make, _>>=_, _▹_, give, refuse, each, makeOf, reads, seen, up}
 use Rattle.semantics.specs.Factory.{notOf, andOf, truthOf, isWordOf, isProcedureOf, operatorTermOf}
 use Rattle.semantics.specs.States.{assumeOf, assertOf, halts, outOf, haltOf}
@@ -32,7 +32,7 @@ placeOf (suc p) e ts = placeOf p (at ts e .b) ts
 
 -- "Datum, variable, procedure: that value." The terms false and true have the ops' numbers.
 unfoldable pub datumOf : ℕ → ℕ → State → Make Result
-datumOf op w x = if op equals wordDatum then (makeOf (term wordTerm 0 w 0 0) ▹ λ v. outOf x v) else give (outOf x op)
+datumOf op w x = if op equals wordDatum then (with (wordTermOf w) λ t. makeOf t ▹ λ v. outOf x v) else give (outOf x op)
 
 unfoldable pub procedureOf : ℕ → ℕ → ℕ → State → Make Result
 procedureOf i env before x = makeOf (term procedureTerm 0 i env before) ▹ λ v. outOf x v
@@ -121,7 +121,7 @@ callOf run rule f arg x =
 -- ---- any expression: record i, which is x
 unfoldable pub expressionOf : List ℕ → ℕ → Run → Record → Run
 expressionOf rule before run x i env y =
-    if x .kind equals datumRecord then datumOf (x .op) (x .p) y else
+    if x .kind equals datumRecord then datumOf (x .op) (datumWord x) y else
     if x .kind equals variableRecord then (reads (placeOf (x .p) env) λ v. give (outOf y v)) else
     if x .kind equals procedureRecord then procedureOf i env before y else
     if x .kind equals callRecord then (reads (placeOf (x .p) env) λ f. reads (placeOf (x .q) env) λ v. callOf run rule f v y) else

@@ -3,7 +3,7 @@ use Prim.Native.Nat.{ℕ}
 use Rattle.notation.specs.Notation.{with, if_then_else_, if_equals_then_else_}
 use Rattle.operators.specs.Operators.{operandsOf, givesTruthOf, operateOf}
 use Rattle.semantics.specs.Numbers.{truthTerm, wordTerm, operatorTerm, choiceTerm, procedureTerm, isWordCode, isProcedureCode, negationCode, conjunctionCode, disjunctionCode, truthCode, falseNumber, trueNumber}
-use Rattle.semantics.specs.Terms.{term, at, sortOf}
+use Rattle.semantics.specs.Terms.{term, wordTermOf, termWord, truthNumber, at, sortOf}
 use Rattle.semantics.specs.Steps.{Make, _>>=_, give, makeOf, look, seen, reads}
 
 -- with what the term x stands for
@@ -53,12 +53,13 @@ isProcedureOf x =
 
 -- a result that is worked out: the terms false and true have a truth's number
 unfoldable pub constantOf : ℕ → ℕ → Make ℕ
-constantOf op w = with (givesTruthOf op) λ b. if b then give w else makeOf (term wordTerm 0 w 0 0)
+constantOf op w = with (givesTruthOf op) λ b. if b then (with (truthNumber w) λ n. give n) else (with (wordTermOf w) λ t. makeOf t)
 
 -- "an operator 1 to 12 on word constants is worked out"
 unfoldable pub operatorTermOf : ℕ → ℕ → ℕ → Make ℕ
 operatorTermOf op x y =
     look x λ t. if t .kind equals wordTerm then
-    (with (operandsOf op) λ n. if n equals 1 then (with (operateOf op (t .a) 0) λ w. constantOf op w) else
-    look y λ u. if u .kind equals wordTerm then (with (operateOf op (t .a) (u .a)) λ w. constantOf op w) else makeOf (term operatorTerm op x y 0))
+    (with (operandsOf op) λ n. if n equals 1 then (with (termWord t) λ v. with (operateOf op v 0) λ w. constantOf op w) else
+    look y λ u. if u .kind equals wordTerm then (with (termWord t) λ v. with (termWord u) λ s. with (operateOf op v s) λ w. constantOf op w) else
+    makeOf (term operatorTerm op x y 0))
     else makeOf (term operatorTerm op x y 0)

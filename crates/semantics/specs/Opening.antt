@@ -9,8 +9,8 @@ use Rattle.semantics.specs.declared.Term.{Term}
 use Rattle.semantics.specs.declared.Input.{Input}
 use Rattle.semantics.specs.declared.Session.{Session}
 use Rattle.semantics.specs.declared.Opened.{Opened}
-use Rattle.semantics.specs.Numbers.{constantTruth, constantWord, freeTruth, freeWord, truthTerm, wordTerm, freeTruthTerm, freeWordTerm, bindingTerm, noBinding, trueNumber, leastTable, mostTable, tableSize, badInput}
-use Rattle.semantics.specs.Terms.{term, imageOf}
+use Rattle.semantics.specs.Numbers.{constantTruth, constantWord, freeTruth, freeWord, truthTerm, freeTruthTerm, freeWordTerm, bindingTerm, noBinding, trueNumber, leastTable, mostTable, tableSize, badInput}
+use Rattle.semantics.specs.Terms.{term, wordTermOf, truthNumber, imageOf}
 use Rattle.semantics.specs.Rules.{every}
 use Rattle.semantics.specs.Steps.{settingOf, Got, gave, refused, Make, _>>=_, _▹_, give, makeOf}
 
@@ -32,8 +32,8 @@ inputTaken x =
 -- the term of input i
 unfoldable pub inputTerm : ℕ → Input → Term
 inputTerm i x =
-    if x .kind equals constantTruth then term truthTerm 0 (x .value) 0 0 else
-    if x .kind equals constantWord then term wordTerm 0 (x .value) 0 0 else
+    if x .kind equals constantTruth then term truthTerm 0 (truthNumber (x .value)) 0 0 else
+    if x .kind equals constantWord then wordTermOf (x .value) else
     if x .kind equals freeTruth then term freeTruthTerm 0 i 0 0 else
     term freeWordTerm 0 i 0 0
 

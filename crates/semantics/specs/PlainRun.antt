@@ -8,7 +8,7 @@ use Rattle.semantics.specs.declared.Input.{Input}
 use Rattle.semantics.specs.declared.Outcome.{Outcome}
 use Rattle.semantics.specs.declared.Outcome.the-variants.{Truth, Word, Procedure, Abort, Error, Refused}
 use Rattle.semantics.specs.Numbers.{datumRecord, variableRecord, procedureRecord, callRecord, operatorRecord, letRecord, ifRecord, abortRecord, inputCount, placeLimit, badInput, badNumber, badAllowance, depthSpent, storeFull, noValue}
-use Rattle.semantics.specs.Records.{recordAt}
+use Rattle.semantics.specs.Records.{recordAt, datumWord}
 use Rattle.semantics.specs.Rules.{every, ruleRefusalOf}
 use Rattle.semantics.specs.Opening.{inputTaken}
 use Rattle.semantics.specs.Evaluate.{badDepth}
@@ -47,7 +47,7 @@ callStored room run rule none v k = ended errs k
 -- one expression, as in the concrete run; "each let [...] takes one as it binds"
 unfoldable pub expressionStored : ℕ → List ℕ → (ℕ → Storing) → Record → ℕ → Storing
 expressionStored room rule run x i =
-    if x .kind equals datumRecord then (λ e. ended (gives (datumValue (x .op) (x .p)))) else
+    if x .kind equals datumRecord then (λ e. ended (gives (datumValue (x .op) (datumWord x)))) else
     if x .kind equals variableRecord then (λ e. ended (gives (placed (x .p) e))) else
     if x .kind equals procedureRecord then (λ e. ended (gives (procedure i e))) else
     if x .kind equals callRecord then (λ e. callStored room run rule (placed (x .p) e) (placed (x .q) e)) else

@@ -5,6 +5,7 @@ use mathlib.Core.List.{List, [], _∷_}
 use lib.Dec.{eqb, leb}
 use lib.ListN.{getD, drop, length, replicate}
 use Rattle.notation.specs.Notation.{with, if_then_else_, if_equals_then_else_}
+use Rattle.words.specs.Words.{wordBytes}
 use Rattle.semantics.specs.declared.Term.{Term}
 use Rattle.semantics.specs.declared.Input.{Input}
 use Rattle.semantics.specs.declared.Session.{Session}
@@ -13,16 +14,20 @@ use Rattle.semantics.specs.declared.Answer.{Answer}
 use Rattle.semantics.specs.declared.Answer.the-variants.{Out, Halt, Refused}
 use Rattle.semantics.specs.declared.Evaluated.{Evaluated}
 use Rattle.semantics.specs.Numbers.{inputCount, mostTable, badInput}
-use Rattle.semantics.specs.Records.{pairAt}
+use Rattle.semantics.specs.Records.{wordAt}
 use Rattle.semantics.specs.Rules.{upTo}
 use Rattle.semantics.specs.Terms.{termAt}
 use Rattle.semantics.specs.Opening.{openOf}
 use Rattle.semantics.specs.Evaluate.{evaluateOf}
 
--- "The program reads 16 inputs of 4 bytes (kind, zero, 2-byte value), then a rule"; "allowance 100, table 65,536"
-abbrev pub inputBytes : ℕ
-inputBytes = 4 * inputCount
+-- "The program reads 16 inputs of 4 bytes (kind, zero, 2-byte value), then a rule": the value is a word, and stands in the second half
+abbrev pub inputSize : ℕ
+inputSize = 2 * wordBytes
 
+abbrev pub inputBytes : ℕ
+inputBytes = inputSize * inputCount
+
+-- "allowance 100, table 65,536"
 abbrev pub printAllowance : ℕ
 printAllowance = 100
 
@@ -35,16 +40,20 @@ pub data Line : Type 0 where
 
 -- input i
 abbrev pub inputAt : List ℕ → ℕ → Input
-inputAt s i = record { kind = getD s (4 * i) 0; value = pairAt s (4 * i + 2) }
+inputAt s i = record { kind = getD s (inputSize * i) 0; value = wordAt s (inputSize * i + wordBytes) }
 
 -- n inputs from number i on
 unfoldable pub inputsFrom : List ℕ → ℕ → ℕ → List Input
 inputsFrom s i zero = []
 inputsFrom s i (suc n) = inputAt s i ∷ inputsFrom s (suc i) n
 
+-- what stands between the kind of input i and its value is zero
+abbrev pub inputZeroed : List ℕ → ℕ → Bool
+inputZeroed s i = eqb (getD s (inputSize * i + 1) 0) 0
+
 -- "An input record cut short, or its second byte not zero, is refused by 2."
 unfoldable pub inputsWhole : List ℕ → Bool
-inputsWhole s = leb inputBytes (length s) && upTo inputCount λ i. eqb (getD s (4 * i + 1) 0) 0
+inputsWhole s = leb inputBytes (length s) && upTo inputCount (inputZeroed s)
 
 -- "Then each new term: number, kind, op, a, b, c."
 unfoldable pub termLine : ℕ → Term → Line

@@ -14,7 +14,7 @@ use Rattle.semantics.specs.declared.Reading.{Reading}
 use Rattle.semantics.specs.declared.Outcome.{Outcome}
 use Rattle.semantics.specs.declared.Outcome.the-variants.{Truth, Word, Procedure, Abort, Error, Refused}
 use Rattle.semantics.specs.Numbers.{truthTerm, wordTerm, freeTruthTerm, freeWordTerm, operatorTerm, choiceTerm, procedureTerm, notCode, isWordCode, isProcedureCode, negationCode, conjunctionCode, disjunctionCode, truthCode, freeTruth, misfit, badNumber, badResult, workShort}
-use Rattle.semantics.specs.Terms.{termsIn, namesTruth, namesValue}
+use Rattle.semantics.specs.Terms.{termWord, termsIn, namesTruth, namesValue}
 use Rattle.semantics.specs.Fits.{fitsOf}
 
 -- ---- what a term reads as: a truth, a word or a procedure's record; a binding reads as nothing
@@ -71,7 +71,7 @@ operatorReading op x y =
 unfoldable pub termReading : List ℕ → Term → Reading → Reading → Reading → Reading
 termReading numbers t x y z =
     if t .kind equals truthTerm then readingOf truthTerm (t .a) else
-    if t .kind equals wordTerm then readingOf wordTerm (t .a) else
+    if t .kind equals wordTerm then (with (termWord t) λ w. readingOf wordTerm w) else
     if t .kind equals freeTruthTerm then (with (getD numbers (t .a) 0) λ n. readingOf truthTerm n) else
     if t .kind equals freeWordTerm then (with (getD numbers (t .a) 0) λ n. readingOf wordTerm n) else
     if t .kind equals operatorTerm then operatorReading (t .op) x y else

@@ -6,10 +6,11 @@ use mathlib.Core.List.{List, [], _∷_}
 use lib.Dec.{eqb, ltb}
 use lib.ListN.{getD, set, length, replicate}
 use Rattle.notation.specs.Notation.{with, if_then_else_, if_equals_then_else_, if_below_then_else_, unless_then_else_}
+use Rattle.words.specs.Words.{wordFields}
 use Rattle.operators.specs.Operators.{operandsOf}
 use Rattle.semantics.specs.declared.Record.{Record}
 use Rattle.semantics.specs.Numbers.{datumRecord, variableRecord, procedureRecord, callRecord, operatorRecord, letRecord, ifRecord, abortRecord, errorRecord, wordDatum, isProcedureCode, inputCount, recordLimit, ruleBytes, ruleSize, badRecord, badTree, badPlace}
-use Rattle.semantics.specs.Records.{recordAt, recordsIn}
+use Rattle.semantics.specs.Records.{recordAt, fieldOf, recordsIn}
 
 -- f of every number below n
 unfoldable pub upTo : ℕ → (ℕ → Bool) → Bool
@@ -30,7 +31,7 @@ badRuleSize l = eqb l 0 || (ltb ruleBytes l || not (eqb (l % 8) 0))
 -- how many of p, q and r, in this order, a record of its kind and op uses; 4 where there is no such kind or op
 unfoldable pub usesOf : Record → ℕ
 usesOf x =
-    if x .kind equals datumRecord then (if x .op below wordDatum then 0 else if x .op equals wordDatum then 1 else 4) else
+    if x .kind equals datumRecord then (if x .op below wordDatum then 0 else if x .op equals wordDatum then wordFields else 4) else
     if x .kind equals operatorRecord then (if isProcedureCode below x .op then 4 else with (operandsOf (x .op)) λ n. if n equals 0 then 4 else n) else
     if x .op equals 0 then (
     if x .kind equals variableRecord then 1 else
@@ -42,10 +43,7 @@ usesOf x =
     if x .kind equals errorRecord then 0 else 4) else
     4
 
--- "Unused fields are zero": field i, of a record that uses the first u
-unfoldable pub fieldOf : ℕ → ℕ → ℕ → Bool
-fieldOf u i v = if i below u then true else eqb v 0
-
+-- "Unused fields are zero"
 unfoldable pub shapedOf : Record → Bool
 shapedOf x = with (usesOf x) λ u. if u equals 4 then false else (fieldOf u 0 (x .p) && (fieldOf u 1 (x .q) && fieldOf u 2 (x .r)))
 

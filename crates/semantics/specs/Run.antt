@@ -8,7 +8,7 @@ use Rattle.operators.specs.Operators.{operandsOf, givesTruthOf, operateOf}
 use Rattle.semantics.specs.declared.Record.{Record}
 use Rattle.semantics.specs.declared.Input.{Input}
 use Rattle.semantics.specs.Numbers.{datumRecord, variableRecord, procedureRecord, callRecord, operatorRecord, letRecord, ifRecord, abortRecord, trueDatum, wordDatum, notCode, isWordCode, constantTruth, constantWord, freeTruth}
-use Rattle.semantics.specs.Records.{recordAt}
+use Rattle.semantics.specs.Records.{recordAt, datumWord}
 
 -- A value is a truth, a word or a procedure's record with the bindings there. Bindings are a chain of values, which `none` ends.
 pub data Value : Type 0 where
@@ -107,7 +107,7 @@ callRun run rule none v = errs
 -- "Procedure: its record with the bindings there."; "Let: p, then q with p's value bound. If: r on false, else q."; "Abort, error: the run stops"
 unfoldable pub expressionRun : List ℕ → (ℕ → Running) → Record → ℕ → Running
 expressionRun rule run x i =
-    if x .kind equals datumRecord then (λ e. gives (datumValue (x .op) (x .p))) else
+    if x .kind equals datumRecord then (λ e. gives (datumValue (x .op) (datumWord x))) else
     if x .kind equals variableRecord then (λ e. gives (placed (x .p) e)) else
     if x .kind equals procedureRecord then (λ e. gives (procedure i e)) else
     if x .kind equals callRecord then (λ e. callRun run rule (placed (x .p) e) (placed (x .q) e)) else

@@ -6,14 +6,26 @@ use mathlib.Core.List.{List, [], _∷_, _++_}
 use lib.Dec.{eqb, ltb}
 use lib.ListN.{take, drop, length, replicate}
 use Rattle.notation.specs.Notation.{pick, with, if_then_else_, if_equals_then_else_, if_below_then_else_}
+use Rattle.words.specs.Words.{wordFields, lowOf, highOf, joinOf}
 use Rattle.operators.specs.Operators.{operandsOf, givesTruthOf}
 use Rattle.semantics.specs.declared.Term.{Term}
 use Rattle.semantics.specs.declared.Found.{Found}
-use Rattle.semantics.specs.Numbers.{truthTerm, wordTerm, freeTruthTerm, freeWordTerm, operatorTerm, choiceTerm, procedureTerm, bindingTerm, notCode, isWordCode, isProcedureCode, negationCode, conjunctionCode, disjunctionCode, truthCode, noBinding, inputCount, recordLimit}
-use Rattle.semantics.specs.Records.{recordAt}
+use Rattle.semantics.specs.Numbers.{truthTerm, wordTerm, freeTruthTerm, freeWordTerm, operatorTerm, choiceTerm, procedureTerm, bindingTerm, notCode, isWordCode, isProcedureCode, negationCode, conjunctionCode, disjunctionCode, truthCode, falseNumber, trueNumber, noBinding, inputCount, recordLimit}
+use Rattle.semantics.specs.Records.{recordAt, fieldOf}
 
 abbrev pub term : ℕ → ℕ → ℕ → ℕ → ℕ → Term
 term k o x y z = record { kind = k; op = o; a = x; b = y; c = z }
+
+-- "2 word constant a": the term of a word, and the word of such a term
+abbrev pub wordTermOf : ℕ → Term
+wordTermOf w = term wordTerm 0 (lowOf w) (highOf w) 0
+
+abbrev pub termWord : Term → ℕ
+termWord t = joinOf (t .a) (t .b)
+
+-- "1 truth constant a": the a of a truth that is kept as a word, 1 for true. The terms false and true have it as their number.
+unfoldable pub truthNumber : ℕ → ℕ
+truthNumber w = if w equals 1 then trueNumber else falseNumber
 
 -- no term: 8 bytes of zero, as past the count
 abbrev pub blank : Term
@@ -107,6 +119,10 @@ operandsLaidOut ts op a b =
     if op equals truthCode then (namesChoice ts a && eqb b 0) else
     false
 
+-- the fields of a word constant that no word uses are zero
+abbrev pub wordLaid : Term → Bool
+wordLaid t = fieldOf wordFields 1 (t .b) && eqb (t .c) 0
+
 -- "1 truth constant a; 2 word constant a; 3 free truth input a; 4 free word input a; 5 operator term on a, b; 6 choice: b if a, else c;
 -- 7 procedure: a its record, b its bindings, c the count of rules accepted before its own; 8 binding: value a, next b, or 65,535";
 -- "Unused fields are zero"; and of 3: "a procedure's c is not below the accepted count or its a is over 4,095"
@@ -115,7 +131,7 @@ laidOut accepted ts t =
     if t .kind equals operatorTerm then (operandsLaidOut ts (t .op) (t .a) (t .b) && eqb (t .c) 0) else
     if t .op equals 0 then (
     if t .kind equals truthTerm then (ltb (t .a) 2 && (eqb (t .b) 0 && eqb (t .c) 0)) else
-    if t .kind equals wordTerm then (eqb (t .b) 0 && eqb (t .c) 0) else
+    if t .kind equals wordTerm then wordLaid t else
     if t .kind equals freeTruthTerm then (ltb (t .a) inputCount && (eqb (t .b) 0 && eqb (t .c) 0)) else
     if t .kind equals freeWordTerm then (ltb (t .a) inputCount && (eqb (t .b) 0 && eqb (t .c) 0)) else
     if t .kind equals choiceTerm then (namesTruth ts (t .a) && (namesValue ts (t .b) && namesValue ts (t .c))) else

@@ -2,6 +2,8 @@
 // definitions themselves are in specs/, in the order of document 01. No functions.
 pub mod numbers;
 
+use words::Word;
+
 // A record of a rule.
 pub struct Record {
     pub kind: u8,
@@ -29,7 +31,7 @@ pub struct Found {
 // An input of a session.
 pub struct Input {
     pub kind: u8,
-    pub value: u16,
+    pub value: Word,
 }
 
 // What is assumed (document 01's S) and what is asserted (its T), as numbers of terms.
@@ -96,14 +98,14 @@ pub struct Evaluated {
 // What a term reads as: a truth, a word or a procedure, and its number.
 pub struct Reading {
     pub sort: u8,
-    pub number: u16,
+    pub number: Word,
 }
 
-// What reading a result, or running a rule, answers.
+// What reading a result, or running a rule, answers. A procedure answers with the number of its record, which a word holds.
 pub enum Outcome {
     Truth(bool),
-    Word(u16),
-    Procedure(u16),
+    Word(Word),
+    Procedure(Word),
     Abort,
     Error,
     Refused(u8),

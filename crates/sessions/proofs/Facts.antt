@@ -79,9 +79,9 @@ pub record Fitting (x : Session) (s : List ℕ) : Type 0 where
   pub few : x .accepted ≤ ruleLimit
 
 -- sixteen inputs are some
-begins-all : (xs : List Input) → every inputTaken xs ≡ true → length xs ≡ inputCount → Begins xs
-begins-all [] h n = absurd (omega arith)
-begins-all (x ∷ xs) h n = begins x xs h n
+begins-all : (xs : List Input) → length xs ≡ inputCount → Begins xs
+begins-all [] n = absurd (omega arith)
+begins-all (x ∷ xs) n = begins x xs n
 
 module _ (x : Session) (s : List ℕ) (n : length (x .inputs) ≡ inputCount) where
   facts : Sized (length s) → every inputTaken (x .inputs) ≡ true → length (opening (x .inputs) .terms) ≤ x .count → x .count ≤ recordsIn s
@@ -89,7 +89,7 @@ module _ (x : Session) (s : List ℕ) (n : length (x .inputs) ≡ inputCount) wh
       → every isZero (drop (8 * x .count) s) ≡ true → Stated (termsIn s (x .count)) (x .state) → x .accepted ≤ ruleLimit → Fitting x s
   facts z t a b o f w st l =
       let g : Grown (opening (x .inputs) .terms) (termsIn s (x .count)) = grows in
-      let q = begins-all (x .inputs) t n in
+      let q = begins-all (x .inputs) n in
       let c : Grown constants (termsIn s (x .count)) = grown-on (q .base) g in
       let y = z .most in
       record {

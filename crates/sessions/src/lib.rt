@@ -10,6 +10,7 @@ ghost use mathlib.Core.Bool.{true};
 ghost use mathlib.Core.Path.{_≡_};
 ghost use Prim.Native.Nat.{ℕ, _<_};
 ghost use mathlib.Core.List.{List};
+ghost use Rattle.semantics.specs.Numbers.{ruleLimit};
 ghost use Rattle.semantics.specs.Rules.{ruleRefusalOf};
 ghost use Rattle.semantics.specs.Fits.{fitsOf};
 ghost use Rattle.semantics.specs.Answers.{answerOf};
@@ -20,7 +21,7 @@ ghost use Rattle.sessions.specs.Entered.{Enters};
 fn environment(inputs: [Input; 16]) -> u16
     ensures { λ r. ⌜ Enters inputs r ⌝ }
 {
-    let mut bytes: [u8; 272] = [0; 272];
+    let mut bytes: [u8; numbers::LEAST_TABLE] = [0; numbers::LEAST_TABLE];
     let o = opening::open_all(&mut bytes, inputs);
     o.number
 }
@@ -36,7 +37,7 @@ fn bad_depth(allowance: u16) -> bool
 
 // The session once a rule is accepted.
 fn advanced(session: Session, count: u16, result: Result) -> Session
-    requires { ⌜ session .accepted < 1000 ⌝ }
+    requires { ⌜ session .accepted < ruleLimit ⌝ }
     ensures { λ r. ⌜ r ≡ «advanced-session» session count result ⌝ }
 {
     let inputs = session.inputs;
@@ -70,7 +71,7 @@ fn answer(result: Result, depth: u16) -> Answer
 
 // The evaluation by the rules, from record 0. What a refused one wrote behind the count is zeroed.
 fn evaluated(session: Session, table: &mut [u8], rule: &[u8], allowance: u16) -> Evaluated
-    requires { ⌜ (fitsOf session (now table) ≡ true) × (ruleRefusalOf (now rule) ≡ 0) × (session .accepted < 1000) ⌝ }
+    requires { ⌜ (fitsOf session (now table) ≡ true) × (ruleRefusalOf (now rule) ≡ 0) × (session .accepted < ruleLimit) ⌝ }
     ensures { λ r. ⌜ (r, now (table .exit)) ≡ «evaluated-by-rules» (now (rule .entry)) allowance session (now (table .entry)) ⌝ }
 {
     let inputs = session.inputs;
@@ -137,7 +138,7 @@ pub fn evaluate(session: Session, table: &mut [u8], rule: &[u8], allowance: u16)
 
 // The same halt, and one rule more.
 fn halted_again(session: Session) -> Evaluated
-    requires { ⌜ session .accepted < 1000 ⌝ }
+    requires { ⌜ session .accepted < ruleLimit ⌝ }
     ensures { λ r. ⌜ ((s : List ℕ) → (r, s) ≡ haltedAgain session s) ⌝ }
 {
     let state = session.state;

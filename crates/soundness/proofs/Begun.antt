@@ -2,22 +2,23 @@
 use mathlib.Core.Path.{_≡_, refl, sym, ap, subst, _∙_}
 use mathlib.Core.Bool.{Bool, true, false, not, or-true}
 use mathlib.Core.List.{List, [], _∷_}
-use Prim.Native.Nat.{ℕ, zero, suc, _+_, _<_, _≤_}
+use Prim.Native.Nat.{ℕ, suc, _+_, _<_, _≤_}
 use native.Mathlib.Omega.{arith}
 use lib.ListN.{length, getD}
 use lib.Dec.{eqb}
-use borrow.Author.Tests.{ltb-true, lt-ltb}
-use Rattle.notation.specs.Notation.{pick, if_then_else_, if_equals_then_else_}
+use borrow.Author.Tests.{lt-ltb}
+use Rattle.words.proofs.Laws.{join-halves}
+use Rattle.notation.specs.Notation.{pick, if_equals_then_else_}
 use Rattle.semantics.specs.declared.Term.{Term}
 use Rattle.semantics.specs.declared.Input.{Input}
-use Rattle.semantics.specs.Numbers.{truthTerm, wordTerm, freeTruthTerm, freeWordTerm, bindingTerm, noBinding, inputCount, mostTable, constantTruth, constantWord, freeTruth}
-use Rattle.semantics.specs.Terms.{term, at, sortOf, sameOf, findOf, laidOut, wellFormed}
-use Rattle.semantics.specs.Rules.{every}
+use Rattle.semantics.specs.Numbers.{truthTerm, wordTerm, freeTruthTerm, freeWordTerm, bindingTerm, noBinding, falseNumber, trueNumber, inputCount, mostTable, constantTruth, constantWord, freeTruth}
+use Rattle.semantics.specs.Terms.{term, wordTermOf, truthNumber, at, sortOf, sameOf, findOf, laidOut, wellFormed}
 use Rattle.semantics.specs.Steps.{settingOf, Got, gave, deeper, _>>=_, makeOf}
-use Rattle.semantics.specs.Opening.{inputTaken, inputTerm, inputsOf, chainOf, openingOf}
+use Rattle.semantics.specs.Opening.{inputTerm, inputsOf, chainOf, openingOf}
 use Rattle.semantics.specs.Run.{Value, truth, word, binding, none, inputValue, inputsBound}
+use Rattle.semantics.proofs.Fields.{high-unused}
 use Rattle.typing.proofs.Grown.{Grown, still, Value as Named, value-grown, value-of, binding-named}
-use Rattle.typing.proofs.Formed.{never, by-test, There}
+use Rattle.typing.proofs.Formed.{There}
 use Rattle.typing.proofs.Steps.{Lies, Fit, Post, did, not-did, Does, does-give, does-then, does-map, does-weaken, does-make}
 use Rattle.typing.proofs.Factory.{there-sort, binding-sort}
 use Rattle.soundness.proofs.Means.{termMeaning, meaning, meaning-grown, meaning-past}
@@ -33,20 +34,19 @@ record Makes (n : ℕ) (ns : List ℕ) (v : Value) (t : Term) : Type 0 where
   named : (us : List Term) (a : ℕ) → There t us a → Named us a
   means : (f : ℕ → Value) → termMeaning ns f t ≡ v
 
-constant-value : (a : ℕ) → a < 2 → not (eqb a 0) ≡ eqb a 1
-constant-value zero h = refl
-constant-value (suc zero) h = refl
-constant-value (suc (suc a)) h = absurd (omega arith)
-
 module _ (n : ℕ) (ns : List ℕ) where
-  makes-truth : (a : ℕ) → a < 2 → Makes n ns (truth (eqb a 1)) (term truthTerm 0 a 0 0)
-  unfolding laidOut sortOf termMeaning if_equals_then_else_
-  makes-truth a h =
-      record { lies = λ ts. rw (lt-ltb a 2 h); named = λ us x t. value-of truthTerm refl refl (there-sort truthTerm refl t); means = λ f. ap truth (constant-value a h) }
+  makes-truth : (w : ℕ) → Makes n ns (truth (eqb w 1)) (term truthTerm 0 (truthNumber w) 0 0)
+  unfolding truthNumber laidOut sortOf termMeaning if_equals_then_else_
+  makes-truth w = go (eqb w 1)
+    where
+      go : (b : Bool) → Makes n ns (truth b) (term truthTerm 0 (pick b trueNumber falseNumber) 0 0)
+      go true = record { lies = λ ts. refl; named = λ us x t. value-of truthTerm refl refl (there-sort truthTerm refl t); means = λ f. refl }
+      go false = record { lies = λ ts. refl; named = λ us x t. value-of truthTerm refl refl (there-sort truthTerm refl t); means = λ f. refl }
 
-  makes-word : (a : ℕ) → Makes n ns (word a) (term wordTerm 0 a 0 0)
+  makes-word : (w : ℕ) → Makes n ns (word w) (wordTermOf w)
   unfolding laidOut sortOf termMeaning if_equals_then_else_
-  makes-word a = record { lies = λ ts. refl; named = λ us x t. value-of wordTerm refl refl (there-sort wordTerm refl t); means = λ f. refl }
+  makes-word w =
+      record { lies = λ ts. rw (high-unused w); named = λ us x t. value-of wordTerm refl refl (there-sort wordTerm refl t); means = λ f. ap word (join-halves w) }
 
   makes-free-truth : (i : ℕ) → i < inputCount → Makes n ns (truth (eqb (getD ns i 0) 1)) (term freeTruthTerm 0 i 0 0)
   unfolding laidOut sortOf termMeaning if_equals_then_else_
@@ -58,20 +58,16 @@ module _ (n : ℕ) (ns : List ℕ) where
   makes-free-word i h =
       record { lies = λ ts. rw (lt-ltb i inputCount h); named = λ us x t. value-of wordTerm refl refl (there-sort wordTerm refl t); means = λ f. refl }
 
-  makes-input : (i : ℕ) (x : Input) → inputTaken x ≡ true → i < inputCount → Makes n ns (inputValue x (getD ns i 0)) (inputTerm i x)
-  unfolding inputTaken inputTerm inputValue if_equals_then_else_
-  makes-input i x h l = go (eqb (x .kind) constantTruth) (eqb (x .kind) constantWord) (eqb (x .kind) freeTruth) refl
+  makes-input : (i : ℕ) (x : Input) → i < inputCount → Makes n ns (inputValue x (getD ns i 0)) (inputTerm i x)
+  unfolding inputTerm inputValue if_equals_then_else_
+  makes-input i x l = go (eqb (x .kind) constantTruth) (eqb (x .kind) constantWord) (eqb (x .kind) freeTruth)
     where
-      small : eqb (x .kind) constantTruth ≡ true → x .value < 2
-      small e = ltb-true (x .value) 2 (rw e at h)
-
-      go : (a b c : Bool) → eqb (x .kind) constantTruth ≡ a
-          → Makes n ns (pick a (truth (eqb (x .value) 1)) (pick b (word (x .value)) (pick c (truth (eqb (getD ns i 0) 1)) (word (getD ns i 0)))))
-          (pick a (term truthTerm 0 (x .value) 0 0) (pick b (term wordTerm 0 (x .value) 0 0) (pick c (term freeTruthTerm 0 i 0 0) (term freeWordTerm 0 i 0 0))))
-      go true b c e = makes-truth (x .value) (small e)
-      go false true c e = makes-word (x .value)
-      go false false true e = makes-free-truth i l
-      go false false false e = makes-free-word i l
+      go : (a b c : Bool) → Makes n ns (pick a (truth (eqb (x .value) 1)) (pick b (word (x .value)) (pick c (truth (eqb (getD ns i 0) 1)) (word (getD ns i 0)))))
+          (pick a (term truthTerm 0 (truthNumber (x .value)) 0 0) (pick b (wordTermOf (x .value)) (pick c (term freeTruthTerm 0 i 0 0) (term freeWordTerm 0 i 0 0))))
+      go true b c = makes-truth (x .value)
+      go false true c = makes-word (x .value)
+      go false false true = makes-free-truth i l
+      go false false false = makes-free-word i l
 
 -- ---- the values of the inputs, and a chain of them
 abbrev valuesOf : List ℕ → ℕ → List Input → List Value
@@ -102,19 +98,17 @@ module _ {n : ℕ} {ns : List ℕ} where
   tail-means {x = x} f g (tail-on k) = meaning-grown ns x g (k .sort .low) ∙ k .is
 
 module _ {l n : ℕ} {ns : List ℕ} where
-  input-does : {ts : List Term} (i : ℕ) (x : Input) → Fit n ts → inputTaken x ≡ true → i < inputCount → Does l n (makeOf (inputTerm i x)) ts (Is ns (inputValue x (getD ns i 0)))
-  input-does {ts} i x f h k =
-      let m = makes-input n ns i x h k in
+  input-does : {ts : List Term} (i : ℕ) (x : Input) → Fit n ts → i < inputCount → Does l n (makeOf (inputTerm i x)) ts (Is ns (inputValue x (getD ns i 0)))
+  input-does {ts} i x f k =
+      let m = makes-input n ns i x k in
       does-weaken (λ us a g j t. record { named = m .named us a t; is = there-means ns j t ∙ m .means (meaning ns us) }) (does-make f (record { is = m .lies ts }))
 
-  inputs-does : {ts : List Term} (i : ℕ) (xs : List Input) → Fit n ts → every inputTaken xs ≡ true → i + length xs ≤ inputCount
+  inputs-does : {ts : List Term} (i : ℕ) (xs : List Input) → Fit n ts → i + length xs ≤ inputCount
       → Does l n (inputsOf i xs) ts (Ins ns (valuesOf ns i xs))
-  unfolding inputsOf every if_then_else_
-  inputs-does i [] f h k = does-give [] f no-in
-  inputs-does i (x ∷ xs) f h k =
-      by-test (inputTaken x) (every inputTaken xs) false h
-      (λ p q. does-then (input-does i x f p (omega arith)) (λ us v g j r. does-map _ (inputs-does (suc i) xs j q (omega arith)) (λ ws vs u w z. also-in (is-grown u r) z)))
-      (λ p q. never q)
+  unfolding inputsOf
+  inputs-does i [] f k = does-give [] f no-in
+  inputs-does i (x ∷ xs) f k =
+      does-then (input-does i x f (omega arith)) (λ us v g j r. does-map _ (inputs-does (suc i) xs j (omega arith)) (λ ws vs u w z. also-in (is-grown u r) z))
 
   chain-does : {ts us : List Term} {ws : List Value} {vs : List ℕ} → Grown ts us → Fit n us → Ins ns ws ts vs → Does l n (chainOf vs) us (Tail ns (chained ws))
   unfolding chainOf
@@ -161,10 +155,10 @@ pub record Opens (n : ℕ) (ns : List ℕ) (v : Value) (ts : List Term) (e : ℕ
   pub fit : Fit n ts
   pub environment : En ns v ts e
 
-pub opening-means : {n : ℕ} (ns : List ℕ) (xs : List Input) → length xs ≡ inputCount → inputCount ≤ length ns → every inputTaken xs ≡ true
+pub opening-means : {n : ℕ} (ns : List ℕ) (xs : List Input) → length xs ≡ inputCount → inputCount ≤ length ns
     → {ts : List Term} {e u : ℕ} → openingOf xs (settingOf mostTable) [] ≡ gave ts e u → Opens n ns (inputsBound xs ns) ts e
-opening-means {n} ns xs l m h {ts} {e} {u} q =
-    go _ _ (does-then (inputs-does {l = mostTable} {n = n} {ns = ns} 0 xs (constants-fit n) h (omega arith)) (λ us vs g f r. chain-does still f r) .post)
+opening-means {n} ns xs l m {ts} {e} {u} q =
+    go _ _ (does-then (inputs-does {l = mostTable} {n = n} {ns = ns} 0 xs (constants-fit n) (omega arith)) (λ us vs g f r. chain-does still f r) .post)
     (sym (from-constants xs) ∙ q)
   where
     not-none : (xs : List Input) → length xs ≡ inputCount → chained (valuesOf ns 0 xs) ≡ none → ⊥

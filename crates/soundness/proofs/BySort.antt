@@ -12,7 +12,7 @@ use Rattle.notation.specs.Notation.{pick, if_then_else_, if_equals_then_else_, 
 use Rattle.operators.specs.Operators.{givesTruthOf, rowOf}
 use Rattle.semantics.specs.declared.Term.{Term}
 use Rattle.semantics.specs.Numbers.{truthTerm, wordTerm, freeTruthTerm, freeWordTerm, operatorTerm, choiceTerm, procedureTerm, bindingTerm, isWordCode, isProcedureCode, negationCode, conjunctionCode, disjunctionCode, truthCode}
-use Rattle.semantics.specs.Terms.{at, sortOf}
+use Rattle.semantics.specs.Terms.{termWord, at, sortOf}
 use Rattle.semantics.specs.Run.{Value, truth, word, procedure, binding, wordIn, operationValue}
 use Rattle.typing.proofs.Grown.{Sort}
 use Rattle.typing.proofs.Formed.{never, There}
@@ -58,7 +58,7 @@ module _ (ns : List ℕ) (f : ℕ → Value) (t : Term) where
   unfolding termMeaning if_equals_then_else_
   means-truth k = rw k
 
-  pub means-word : t .kind ≡ wordTerm → termMeaning ns f t ≡ word (t .a)
+  pub means-word : t .kind ≡ wordTerm → termMeaning ns f t ≡ word (termWord t)
   unfolding termMeaning if_equals_then_else_
   means-word k = rw k
 

@@ -5,11 +5,12 @@ use mathlib.Core.List.{List}
 use Prim.Native.Nat.{ℕ, _<_}
 use lib.Dec.{eqb}
 use borrow.Author.Tests.{eqb-true, eqb-false, ne-eqb, lt-ltb}
+use Rattle.words.proofs.Laws.{join-halves}
 use Rattle.notation.specs.Notation.{pick, if_then_else_, if_equals_then_else_, if_below_then_else_}
 use Rattle.operators.specs.Operators.{operandsOf, givesTruthOf, rowOf}
 use Rattle.semantics.specs.declared.Term.{Term}
 use Rattle.semantics.specs.Numbers.{truthTerm, wordTerm, operatorTerm, choiceTerm, procedureTerm, bindingTerm, isWordCode, isProcedureCode, negationCode, conjunctionCode, disjunctionCode, truthCode, recordLimit, tableFull}
-use Rattle.semantics.specs.Terms.{term, at, sortOf, namesValue, operandsLaidOut, laidOut}
+use Rattle.semantics.specs.Terms.{term, wordTermOf, at, sortOf, namesValue, operandsLaidOut, laidOut}
 use Rattle.semantics.specs.Steps.{makeOf}
 use Rattle.semantics.specs.Factory.{notOf, andOf, orOf, impliesOf, choiceOf, truthOf, isWordOf, isProcedureOf}
 use Rattle.semantics.specs.Run.{Value, truth, word, procedure, binding, isFalse, isAWord, isAProcedure}
@@ -106,7 +107,7 @@ operator-named {ts} {x} {op} h = go (givesTruthOf op) refl
     go true e = value-of truthTerm refl refl (there-sort truthTerm (rw e) h)
     go false e = value-of wordTerm refl refl (there-sort wordTerm (rw e) h)
 
-word-sort : (w : ℕ) → sortOf (term wordTerm 0 w 0 0) ≡ wordTerm
+word-sort : (w : ℕ) → sortOf (wordTermOf w) ≡ wordTerm
 unfolding sortOf if_equals_then_else_
 word-sort w = refl
 
@@ -139,7 +140,7 @@ unfolding givesTruthOf rowOf
 gives-is-procedure = refl
 
 -- ---- constants
-word-constant : (w : ℕ) → isConstant (term wordTerm 0 w 0 0) ≡ true
+word-constant : (w : ℕ) → isConstant (wordTermOf w) ≡ true
 unfolding isConstant if_equals_then_else_
 word-constant w = refl
 
@@ -293,11 +294,11 @@ module _ {l n : ℕ} {N : ℕ → Type 0} (full : N tableFull) {ns : List ℕ} w
       (λ us g. mean-is-procedure ns (meaning ns us) x (is-step g h .is))) λ d.
       does-eq _ _ (λ e. does-give _ f (rw (is-procedure f h e) (yes-bo f))) λ e. does-give _ f (rw (no-procedure f h d e) (no-bo f)))
 
-  pub word-does : {ts : List Term} (w : ℕ) → Fit n ts → Does l n (makeOf (term wordTerm 0 w 0 0)) ts (Is ns (word w)) N
+  pub word-does : {ts : List Term} (w : ℕ) → Fit n ts → Does l n (makeOf (wordTermOf w)) ts (Is ns (word w)) N
   word-does w f =
       does-weaken f (λ us a s j. record {
         named = value-of wordTerm refl refl (there-sort wordTerm (word-sort w) j);
-        is = there-means ns (s .fit) j ∙ means-word ns (meaning ns us) (term wordTerm 0 w 0 0) refl;
+        is = there-means ns (s .fit) j ∙ (means-word ns (meaning ns us) (wordTermOf w) refl ∙ ap word (join-halves w));
       }) (does-make full f (laid-word w) (λ c. word-constant w))
 
   pub procedure-does : {ts : List Term} {i e b : ℕ} {v : Value} → Fit n ts → i < recordLimit → En ns v ts e → b < n

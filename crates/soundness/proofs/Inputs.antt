@@ -11,8 +11,8 @@ use borrow.Author.Tests.{eqb-true, eqb-false, ltb-true}
 use Rattle.notation.specs.Notation.{pick, if_equals_then_else_}
 use Rattle.semantics.specs.declared.Term.{Term}
 use Rattle.semantics.specs.declared.Input.{Input}
-use Rattle.semantics.specs.Numbers.{truthTerm, wordTerm, freeTruthTerm, freeWordTerm, bindingTerm, constantTruth, constantWord, freeTruth, tableFull}
-use Rattle.semantics.specs.Terms.{term}
+use Rattle.semantics.specs.Numbers.{truthTerm, freeTruthTerm, freeWordTerm, bindingTerm, constantTruth, constantWord, freeTruth, tableFull}
+use Rattle.semantics.specs.Terms.{term, wordTermOf, truthNumber}
 use Rattle.semantics.specs.Steps.{Setting, Got, gave, refused, Make, deeper, next, _>>=_, _▹_, give, makeOf}
 use Rattle.semantics.specs.Opening.{inputTerm, inputsOf, chainOf, openingOf}
 use Rattle.semantics.specs.Reading.{numbersTaken}
@@ -102,7 +102,7 @@ unfolding inputTerm if_equals_then_else_
 small-input ns i x h = go (eqb (x .kind) constantTruth) (eqb (x .kind) constantWord) (eqb (x .kind) freeTruth) refl
   where
     go : (a b c : Bool) → eqb (x .kind) freeTruth ≡ c
-        → SmallTerm ns (pick a (term truthTerm 0 (x .value) 0 0) (pick b (term wordTerm 0 (x .value) 0 0) (pick c (term freeTruthTerm 0 i 0 0) (term freeWordTerm 0 i 0 0))))
+        → SmallTerm ns (pick a (term truthTerm 0 (truthNumber (x .value)) 0 0) (pick b (wordTermOf (x .value)) (pick c (term freeTruthTerm 0 i 0 0) (term freeWordTerm 0 i 0 0))))
     go true b c e k = absurd (omega arith)
     go false true c e k = absurd (omega arith)
     go false false true e k = h (eqb-true _ _ e)
@@ -150,7 +150,7 @@ module _ (i : ℕ) (x : Input) where
   constant-input h = go (eqb (x .kind) constantTruth) (eqb (x .kind) constantWord) refl refl
     where
       go : (a b : Bool) → eqb (x .kind) constantTruth ≡ a → eqb (x .kind) constantWord ≡ b
-          → isConstant (pick a (term truthTerm 0 (x .value) 0 0) (pick b (term wordTerm 0 (x .value) 0 0) (pick (eqb (x .kind) freeTruth) (term freeTruthTerm 0 i 0 0) (term freeWordTerm 0 i 0 0)))) ≡ true
+          → isConstant (pick a (term truthTerm 0 (truthNumber (x .value)) 0 0) (pick b (wordTermOf (x .value)) (pick (eqb (x .kind) freeTruth) (term freeTruthTerm 0 i 0 0) (term freeWordTerm 0 i 0 0)))) ≡ true
       go true b p q = refl
       go false true p q = refl
       go false false p q = absurd (omega (arith, eqb-false (x .kind) constantTruth p, eqb-false (x .kind) constantWord q))

@@ -12,7 +12,7 @@ use Rattle.notation.specs.Notation.{pick, if_then_else_, if_equals_then_else_, 
 use Rattle.operators.specs.Operators.{givesTruthOf}
 use Rattle.semantics.specs.declared.Term.{Term}
 use Rattle.semantics.specs.Numbers.{truthTerm, wordTerm, freeTruthTerm, freeWordTerm, operatorTerm, choiceTerm, procedureTerm, bindingTerm, notCode, isWordCode, isProcedureCode, negationCode, conjunctionCode, disjunctionCode, truthCode, noBinding, termLimit}
-use Rattle.semantics.specs.Terms.{at, operandsLaidOut, laidOut, wellFormed}
+use Rattle.semantics.specs.Terms.{termWord, at, operandsLaidOut, laidOut, wellFormed}
 use Rattle.semantics.specs.Run.{Value, truth, word, procedure, binding, none, isFalse, isAWord, isAProcedure, wordIn, operationValue, wordsRun}
 use Rattle.typing.proofs.Grown.{Grown, still, more, grown-length, at-lower, at-newest}
 use Rattle.typing.proofs.Formed.{both, choice-names, procedure-names, binding-value, binding-next, operands-lower, Laid, formed-newest, laid-at}
@@ -59,7 +59,7 @@ operatorMeaning op x y =
 unfoldable pub termMeaning : List ℕ → (ℕ → Value) → Term → Value
 termMeaning ns f t =
     if t .kind equals truthTerm then truth (not (eqb (t .a) 0)) else
-    if t .kind equals wordTerm then word (t .a) else
+    if t .kind equals wordTerm then word (termWord t) else
     if t .kind equals freeTruthTerm then truth (eqb (getD ns (t .a) 0) 1) else
     if t .kind equals freeWordTerm then word (getD ns (t .a) 0) else
     if t .kind equals operatorTerm then operatorMeaning (t .op) (f (t .a)) (f (t .b)) else

@@ -10,8 +10,8 @@ use borrow.Author.Tests.{eqb-true, eqb-false, ne-eqb, lt-ltb}
 use Rattle.notation.specs.Notation.{pick, bit, if_then_else_, if_equals_then_else_, if_below_then_else_}
 use Rattle.operators.specs.Operators.{operandsOf, givesTruthOf, rowOf, operateOf}
 use Rattle.semantics.specs.declared.Term.{Term}
-use Rattle.semantics.specs.Numbers.{wordTerm, operatorTerm, notCode, tableFull}
-use Rattle.semantics.specs.Terms.{term, at, sortOf}
+use Rattle.semantics.specs.Numbers.{wordTerm, operatorTerm, notCode, falseNumber, trueNumber, tableFull}
+use Rattle.semantics.specs.Terms.{term, termWord, truthNumber, at, sortOf}
 use Rattle.semantics.specs.Steps.{makeOf}
 use Rattle.semantics.specs.Factory.{constantOf, operatorTermOf}
 use Rattle.semantics.specs.Run.{Value, truth, word, isAWord, wordIn, operationValue, wordsRun}
@@ -131,7 +131,7 @@ word-constant-kind {ns} {n} {ts} {x} {v} f h c w =
     (λ s. no-choice s c) (λ s. never (sym (ap isAWord (sym (h .is) ∙ procedure-means ns f s)) ∙ w))
 
 -- a word constant
-word-at : (ns : List ℕ) {n : ℕ} {ts : List Term} (x : ℕ) {v : Value} → Fit n ts → x < length ts → meaning ns ts x ≡ v → at ts x .kind ≡ wordTerm → v ≡ word (at ts x .a)
+word-at : (ns : List ℕ) {n : ℕ} {ts : List Term} (x : ℕ) {v : Value} → Fit n ts → x < length ts → meaning ns ts x ≡ v → at ts x .kind ≡ wordTerm → v ≡ word (termWord (at ts x))
 word-at ns {ts = ts} x f l h k = sym h ∙ (means-at ns f x l ∙ means-word ns (meaning ns ts) (at ts x) k)
 
 -- the second operand, if there is one
@@ -142,30 +142,31 @@ pub record Second (ns : List ℕ) (v : Value) (ts : List Term) (x : ℕ) : Type 
 pub second-step : {ns : List ℕ} {n : ℕ} {ts us : List Term} {v : Value} {x : ℕ} → Step n ts us → Second ns v ts x → Second ns v us x
 second-step {ns} {x = x} g h = let l = grown-length (g .grown) in let k = h .low in record { low = omega arith; is = meaning-grown ns x (g .grown) (h .low) ∙ h .is }
 
-bit-is : {ns : List ℕ} {n : ℕ} {ts : List Term} → Fit n ts → (b : Bool) → Is ns (truth (eqb (bit b) 1)) ts (bit b)
-bit-is f true = bo-is (yes-bo f)
-bit-is f false = bo-is (no-bo f)
+-- a truth that is kept as a word
+number-is : {ns : List ℕ} {n : ℕ} {ts : List Term} → Fit n ts → (w : ℕ) → Is ns (truth (eqb w 1)) ts (truthNumber w)
+unfolding truthNumber if_equals_then_else_
+number-is {ns} {ts = ts} f w = go (eqb w 1)
+  where
+    go : (b : Bool) → Is ns (truth b) ts (pick b trueNumber falseNumber)
+    go true = bo-is (yes-bo f)
+    go false = bo-is (no-bo f)
 
 module _ {l n : ℕ} {N : ℕ → Type 0} (full : N tableFull) {ns : List ℕ} {ts : List Term} (f : Fit n ts) where
   constant-does : (op x y : ℕ) → Does l n (constantOf op (operateOf op x y)) ts (Is ns (operationValue op x y)) N
   unfolding constantOf
   constant-does op x y =
       does-with _ _ (does-if (givesTruthOf op)
-      (λ e. does-give _ f (rw (operation-truth op x y e, truth-bit op x y e) (go (eqb op 11))))
-      (λ e. rw (operation-word op x y e) (word-does full (operateOf op x y) f)))
-    where
-      go : (b : Bool) → Is ns (truth (eqb (pick b (bit (ltb x y)) (bit (eqb x y))) 1)) ts (pick b (bit (ltb x y)) (bit (eqb x y)))
-      go true = bit-is f (ltb x y)
-      go false = bit-is f (eqb x y)
+      (λ e. does-with _ _ (does-give _ f (rw (operation-truth op x y e) (number-is f (operateOf op x y)))))
+      (λ e. does-with _ _ (rw (operation-word op x y e) (word-does full (operateOf op x y) f))))
 
   pub operator-does : {op a b : ℕ} {v w : Value} → Operands ts op a b → Is ns v ts a → Second ns w ts b → ((operandsOf op ≡ 1 → ⊥) → Is ns w ts b)
       → (Const ts → wordsRun op v w ≡ true) → Does l n (operatorTermOf op a b) ts (Is ns (operatorMeaning op v w)) N
   unfolding operatorTermOf wordIn isAWord
   operator-does {op} {a} {b} {v} {w} h x y z c =
-      does-read _ _ (does-eq _ _ (λ e. let i : v ≡ word (at ts a .a) = word-at ns a f (x .named .low) (x .is) e in
-      does-with _ _ (does-eq _ _ (λ d. does-with _ _ (rw (operator-words op v w (h .few) (words-one op v w (ap isAWord i) d), i, one-value op (at ts a .a) (wordIn w) 0 (h .few) d) (constant-does op _ 0))) λ d.
-      does-read _ _ (does-eq _ _ (λ k. let j : w ≡ word (at ts b .a) = word-at ns b f (y .low) (y .is) k in
-      does-with _ _ (rw (operator-words op v w (h .few) (words-two op v w (ap isAWord i) (ap isAWord j)), i, j) (constant-does op _ _))) λ k.
+      does-read _ _ (does-eq _ _ (λ e. let i : v ≡ word (termWord (at ts a)) = word-at ns a f (x .named .low) (x .is) e in
+      does-with _ _ (does-eq _ _ (λ d. does-with _ _ (does-with _ _ (rw (operator-words op v w (h .few) (words-one op v w (ap isAWord i) d), i, one-value op (termWord (at ts a)) (wordIn w) 0 (h .few) d) (constant-does op _ 0)))) λ d.
+      does-read _ _ (does-eq _ _ (λ k. let j : w ≡ word (termWord (at ts b)) = word-at ns b f (y .low) (y .is) k in
+      does-with _ _ (does-with _ _ (does-with _ _ (rw (operator-words op v w (h .few) (words-two op v w (ap isAWord i) (ap isAWord j)), i, j) (constant-does op _ _))))) λ k.
       made (λ q. absurd (k (word-constant-kind f (z d) q (words-second op v w (c q) d)))))))
       λ e. made (λ q. absurd (e (word-constant-kind f x q (words-first op v w (c q))))))
     where

@@ -13,7 +13,7 @@ use Rattle.semantics.specs.declared.Record.{Record}
 use Rattle.semantics.specs.declared.State.{State}
 use Rattle.semantics.specs.declared.Result.{Result}
 use Rattle.semantics.specs.Numbers.{noBinding, depthSpent, tableFull, callTooWide, datumRecord, variableRecord, procedureRecord, callRecord, operatorRecord, letRecord, ifRecord, abortRecord}
-use Rattle.semantics.specs.Records.{recordAt}
+use Rattle.semantics.specs.Records.{recordAt, datumWord}
 use Rattle.semantics.specs.Terms.{at, knownOf}
 use Rattle.semantics.specs.Steps.{Make}
 use Rattle.semantics.specs.States.{mergeAssumedOf, mergeAssertedOf, assumeOf, assertOf, haltsOf, outOf, haltOf}
@@ -39,7 +39,7 @@ lookOf p none = truth false
 
 unfoldable pub totalExpression : List ℕ → (ℕ → Running) → Record → ℕ → Running
 totalExpression rule run x i =
-    if x .kind equals datumRecord then (λ e. gives (datumValue (x .op) (x .p))) else
+    if x .kind equals datumRecord then (λ e. gives (datumValue (x .op) (datumWord x))) else
     if x .kind equals variableRecord then (λ e. gives (lookOf (x .p) e)) else
     if x .kind equals procedureRecord then (λ e. gives (procedure i e)) else
     if x .kind equals callRecord then (λ e. callRun run rule (lookOf (x .p) e) (lookOf (x .q) e)) else

@@ -10,7 +10,7 @@ use Rattle.semantics.specs.declared.Term.{Term}
 use Rattle.semantics.specs.declared.Record.{Record}
 use Rattle.semantics.specs.declared.State.{State}
 use Rattle.semantics.specs.Numbers.{datumRecord, variableRecord, procedureRecord, callRecord, operatorRecord, letRecord, ifRecord, abortRecord, depthSpent}
-use Rattle.semantics.specs.Records.{recordAt}
+use Rattle.semantics.specs.Records.{recordAt, datumWord}
 use Rattle.semantics.specs.Evaluation.{Run, expressionOf, liveOf, evalOf}
 use Rattle.semantics.specs.Run.{Value, binding, gives, aborts, errs, Running, after, isFalse, operatorRun, datumValue, callRun, procedure}
 use Rattle.typing.proofs.Evaluation.{Ruled}
@@ -21,7 +21,7 @@ use Rattle.soundness.proofs.Calling.{call-sim}
 
 -- ---- what the run of a record is, by its kind
 module _ (rule : List ℕ) (rn : ℕ → Running) (x : Record) (i : ℕ) (E : Value) where
-  total-datum : x .kind ≡ datumRecord → totalExpression rule rn x i E ≡ gives (datumValue (x .op) (x .p))
+  total-datum : x .kind ≡ datumRecord → totalExpression rule rn x i E ≡ gives (datumValue (x .op) (datumWord x))
   unfolding totalExpression if_equals_then_else_
   total-datum k = rw k
 

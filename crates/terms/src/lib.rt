@@ -5,11 +5,12 @@
 use semantics::Found;
 use semantics::Term;
 use semantics::numbers;
+use words::Word;
 ghost use mathlib.Core.Path.{_≡_};
 ghost use mathlib.Core.List.{_++_};
 ghost use Prim.Native.Nat.{_/_, _≤_, max, min};
 ghost use lib.ListN.{length, drop};
-ghost use Rattle.semantics.specs.Terms.{termsIn, at as «term-number», bytesOf, sameOf, sortOf, knownOf};
+ghost use Rattle.semantics.specs.Terms.{wordTermOf, termWord, truthNumber, termsIn, at as «term-number», bytesOf, sameOf, sortOf, knownOf};
 ghost use Rattle.semantics.specs.Steps.{makeOf};
 ghost use Rattle.terms.specs.Search.{floorOf, findFrom};
 ghost use Rattle.terms.specs.Gives.{Gives, wiped};
@@ -34,6 +35,37 @@ pub fn term(table: &[u8], count: u16, i: u16) -> Term
         a: 0,
         b: 0,
         c: 0,
+    }
+}
+
+// The term of a word constant.
+pub fn word_term(w: Word) -> Term
+    ensures { λ r. ⌜ r ≡ wordTermOf w ⌝ }
+{
+    Term {
+        kind: numbers::WORD_TERM,
+        op: 0,
+        a: words::low(w),
+        b: words::high(w),
+        c: 0,
+    }
+}
+
+// The word of a word constant.
+pub fn word(t: Term) -> Word
+    ensures { λ r. ⌜ r ≡ termWord t ⌝ }
+{
+    words::join(t.a, t.b)
+}
+
+// A truth that is kept as a word, 1 for true: the number of the term false or true.
+pub fn truth_number(w: Word) -> u16
+    ensures { λ r. ⌜ r ≡ truthNumber w ⌝ }
+{
+    if w == 1 {
+        numbers::TRUE_NUMBER
+    } else {
+        numbers::FALSE_NUMBER
     }
 }
 

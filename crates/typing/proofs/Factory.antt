@@ -1,19 +1,20 @@
 -- The factory makes terms of their kinds: from truths truths, from values values. Assumes nothing.
-use mathlib.Core.Path.{_≡_, refl, sym, ap, _∙_}
+use mathlib.Core.Path.{_≡_, refl, ap, _∙_}
 use mathlib.Core.Bool.{Bool, true, false, _&&_, or-true}
 use mathlib.Core.List.{List}
 use Prim.Native.Nat.{ℕ, _<_}
 use lib.Dec.{eqb, ltb}
 use borrow.Author.Tests.{eqb-true, eqb-false, ne-eqb, lt-ltb}
-use Rattle.notation.specs.Notation.{pick, bit, with, if_then_else_, if_equals_then_else_, if_below_then_else_}
-use Rattle.operators.specs.Operators.{operandsOf, givesTruthOf, rowOf, operateOf}
+use Rattle.notation.specs.Notation.{pick, with, if_then_else_, if_equals_then_else_, if_below_then_else_}
+use Rattle.operators.specs.Operators.{operandsOf, givesTruthOf, rowOf}
 use Rattle.semantics.specs.declared.Term.{Term}
 use Rattle.semantics.specs.Numbers.{truthTerm, wordTerm, operatorTerm, choiceTerm, procedureTerm, bindingTerm, notCode, isWordCode, isProcedureCode, negationCode, conjunctionCode, disjunctionCode, truthCode, falseNumber, trueNumber, recordLimit, noBinding}
-use Rattle.semantics.specs.Terms.{term, at, sortOf, namesValue, operandsLaidOut, laidOut}
+use Rattle.semantics.specs.Terms.{term, wordTermOf, truthNumber, at, sortOf, namesValue, operandsLaidOut, laidOut}
 use Rattle.semantics.specs.Steps.{give, makeOf}
 use Rattle.semantics.specs.Factory.{notOf, andOf, orOf, impliesOf, choiceOf, truthOf, isWordOf, isProcedureOf, constantOf, operatorTermOf}
+use Rattle.semantics.proofs.Fields.{high-unused}
 use Rattle.typing.proofs.Grown.{Grown, Sort, Value, sort-grown, value-grown, value-of, sort-at, truth-named, choice-named, binding-named}
-use Rattle.typing.proofs.Formed.{never, There}
+use Rattle.typing.proofs.Formed.{There}
 use Rattle.typing.proofs.Steps.{Lies, Fit, Does, does-give, does-then, does-weaken, does-read, does-with, does-if, does-eq, does-make}
 
 abbrev pub Truth : List Term → ℕ → Type 0
@@ -67,9 +68,17 @@ module _ {n : ℕ} {ts : List Term} where
   unfolding laidOut if_equals_then_else_
   laid-choice h k i = record { is = rw (truth-named h, k .is, i .is) }
 
-  pub laid-word : (w : ℕ) → Lies n ts (term wordTerm 0 w 0 0)
+  pub laid-word : (w : ℕ) → Lies n ts (wordTermOf w)
   unfolding laidOut if_equals_then_else_
-  laid-word w = record { is = refl }
+  laid-word w = record { is = rw (high-unused w) }
+
+  pub laid-constant : (w : ℕ) → Lies n ts (term truthTerm 0 (truthNumber w) 0 0)
+  unfolding truthNumber laidOut if_equals_then_else_
+  laid-constant w = record { is = go (eqb w 1) }
+    where
+      go : (b : Bool) → ltb (pick b trueNumber falseNumber) 2 && true ≡ true
+      go true = refl
+      go false = refl
 
   pub laid-binding : {v e : ℕ} → Value ts v → Sort bindingTerm ts e → Lies n ts (term bindingTerm 0 v e 0)
   unfolding laidOut if_equals_then_else_
@@ -113,7 +122,7 @@ operator-value {ts} {x} {op} h = go (givesTruthOf op) refl
     go true e = value-of truthTerm refl refl (there-sort truthTerm (rw e) h)
     go false e = value-of wordTerm refl refl (there-sort wordTerm (rw e) h)
 
-word-sort : (w : ℕ) → sortOf (term wordTerm 0 w 0 0) ≡ wordTerm
+word-sort : (w : ℕ) → sortOf (wordTermOf w) ≡ wordTerm
 unfolding sortOf if_equals_then_else_
 word-sort w = refl
 
@@ -212,38 +221,29 @@ module _ {l n : ℕ} where
       does-read _ _ (does-eq _ _ (λ e. make-formula gives-is-procedure f (laid-is-procedure (sort-at ts x choiceTerm refl e))) λ e.
       does-eq _ _ (λ e. does-give _ f (true-truth f)) λ e. does-give _ f (false-truth f))
 
-  pub word-does : {ts : List Term} (w : ℕ) → Fit n ts → Does l n (makeOf (term wordTerm 0 w 0 0)) ts Value
+  pub word-does : {ts : List Term} (w : ℕ) → Fit n ts → Does l n (makeOf (wordTermOf w)) ts Value
   word-does w f = does-weaken (λ us a _ _ j. value-of wordTerm refl refl j) (makes wordTerm (word-sort w) f (laid-word w))
 
 -- ---- operators 1 to 12, worked out
 
--- an operator that gives a truth is none of those that give words
-other : (op k : ℕ) → givesTruthOf op ≡ true → givesTruthOf k ≡ false → eqb op k ≡ false
-other op k h e = ne-eqb op k (λ i. never (sym e ∙ (ap givesTruthOf (sym i) ∙ h)))
-
--- and then it gives 0 or 1
-truth-bit : (op x y : ℕ) → givesTruthOf op ≡ true → operateOf op x y ≡ pick (eqb op 11) (bit (ltb x y)) (bit (eqb x y))
-unfolding operateOf if_equals_then_else_ givesTruthOf rowOf
-truth-bit op x y h =
-    rw (other op 1 h refl, other op 2 h refl, other op 3 h refl, other op 4 h refl, other op 5 h refl, other op 6 h refl, other op 7 h refl, other op 8 h refl, other op 9 h refl, other op 10 h refl)
-
-bit-value : {n : ℕ} {ts : List Term} → Fit n ts → (b : Bool) → Value ts (bit b)
-bit-value f true = truth-value (true-truth f)
-bit-value f false = false-value f
+-- a truth that is worked out is the term false or true
+number-value : {n : ℕ} {ts : List Term} → Fit n ts → (w : ℕ) → Value ts (truthNumber w)
+unfolding truthNumber if_equals_then_else_
+number-value {n} {ts} f w = go (eqb w 1)
+  where
+    go : (b : Bool) → Value ts (pick b trueNumber falseNumber)
+    go true = truth-value (true-truth f)
+    go false = false-value f
 
 module _ {l n : ℕ} {ts : List Term} (f : Fit n ts) where
-  constant-does : (op x y : ℕ) → Does l n (constantOf op (operateOf op x y)) ts Value
+  constant-does : (op w : ℕ) → Does l n (constantOf op w) ts Value
   unfolding constantOf
-  constant-does op x y =
-      does-with _ _ (does-if (givesTruthOf op) (λ e. does-give _ f (rw (truth-bit op x y e) (go (eqb op 11)))) (λ e. word-does (operateOf op x y) f))
-    where
-      go : (b : Bool) → Value ts (pick b (bit (ltb x y)) (bit (eqb x y)))
-      go true = bit-value f (ltb x y)
-      go false = bit-value f (eqb x y)
+  constant-does op w =
+      does-with _ _ (does-if (givesTruthOf op) (λ e. does-with _ _ (does-give _ f (number-value f w))) (λ e. does-with _ _ (word-does w f)))
 
   pub operator-does : {op a b : ℕ} → Operands ts op a b → Does l n (operatorTermOf op a b) ts Value
   unfolding operatorTermOf
   operator-does {op} {a} {b} h =
       let made : Does l n (makeOf (term operatorTerm op a b 0)) ts Value = does-weaken (λ us x _ _ j. operator-value j) (does-make f (laid-operator h)) in
-      does-read _ _ (does-eq _ _ (λ e. does-with _ _ (does-eq _ _ (λ e. does-with _ _ (constant-does op _ 0)) λ e.
-      does-read _ _ (does-eq _ _ (λ e. does-with _ _ (constant-does op _ _)) λ e. made))) λ e. made)
+      does-read _ _ (does-eq _ _ (λ e. does-with _ _ (does-eq _ _ (λ e. does-with _ _ (does-with _ _ (constant-does op _))) λ e.
+      does-read _ _ (does-eq _ _ (λ e. does-with _ _ (does-with _ _ (does-with _ _ (constant-does op _)))) λ e. made))) λ e. made)

@@ -3,6 +3,7 @@ use Prim.Native.Nat.{ℕ, zero, suc, _+_, _*_, _%_, _≤_}
 use mathlib.Core.List.{List, [], _∷_, _++_}
 use lib.ListN.{getD}
 use Rattle.semantics.specs.declared.Leaf.{Leaf}
+use Rattle.semantics.specs.Numbers.{leafLimit}
 use Rattle.semantics.specs.Terms.{blank}
 use Rattle.semantics.specs.Steps.{Make}
 use Rattle.terms.specs.Gives.{Gives}
@@ -34,4 +35,4 @@ leavesIn l (suc n) = leavesIn l n ++ (leafAt l n ∷ [])
 -- A walk m from the table s with n terms gives the refusal r and h leaves in l, and leaves the table y with c terms.
 pub record Walks (m : Make (List Leaf)) (s : List ℕ) (n r c h : ℕ) (l y : List ℕ) : Type 0 where
   pub gives : Gives m s n r c 0 (leavesIn l h) y
-  pub few : h ≤ 64
+  pub few : h ≤ leafLimit

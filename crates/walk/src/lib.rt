@@ -8,9 +8,9 @@ use states::Standing;
 use terms::Made;
 ghost use mathlib.Core.Path.{_≡_};
 ghost use mathlib.Core.List.{[], _∷_, _++_};
-ghost use Prim.Native.Nat.{_+_, _%_, _<_, _≤_};
+ghost use Prim.Native.Nat.{_+_, _*_, _%_, _<_, _≤_};
 ghost use lib.ListN.{length, getD};
-ghost use Rattle.semantics.specs.Numbers.{termLimit, falseNumber, trueNumber};
+ghost use Rattle.semantics.specs.Numbers.{leafLimit, termLimit, falseNumber, trueNumber};
 ghost use Rattle.semantics.specs.Steps.{each};
 ghost use Rattle.semantics.specs.Walk.{leafOf, leftSideOf, rightSideOf, walkOf, orTargetOf, aimOf};
 ghost use Rattle.terms.specs.Gives.{Gives, from};
@@ -28,6 +28,9 @@ pub const NO_LEAF: Leaf = Leaf {
     },
 };
 
+// The lent numbers of a call's leaves.
+const FOUND: usize = 6 * numbers::LEAF_LIMIT;
+
 // How many leaves are found, with a table that then has `count` terms; or a refusal, where it is not 0.
 pub struct Walked {
     pub refusal: u8,
@@ -40,7 +43,7 @@ pub struct Gathered {
     pub refusal: u8,
     pub count: u16,
     pub have: usize,
-    pub leaves: [Leaf; 64],
+    pub leaves: [Leaf; numbers::LEAF_LIMIT],
 }
 
 // The same of a call, and the state once it is asserted that one is a target.
@@ -48,13 +51,13 @@ pub struct Aimed {
     pub refusal: u8,
     pub count: u16,
     pub have: usize,
-    pub leaves: [Leaf; 64],
+    pub leaves: [Leaf; numbers::LEAF_LIMIT],
     pub state: State,
 }
 
 // Where a call goes: every leaf under the value called, and the asserted or of the targets' guards.
 pub fn aim(table: &mut [u8], count: u16, f: u16, x: State) -> Aimed
-    ensures { λ r. ⌜ (Gives (aimOf f x) (now (table .entry)) count (r .refusal) (r .count) 0 (record { leaves = from noLeaf (r .leaves) 0 (r .have); state = r .state }) (now (table .exit))) × (r .have ≤ 64) ⌝ }
+    ensures { λ r. ⌜ (Gives (aimOf f x) (now (table .entry)) count (r .refusal) (r .count) 0 (record { leaves = from noLeaf (r .leaves) 0 (r .have); state = r .state }) (now (table .exit))) × (r .have ≤ leafLimit) ⌝ }
 {
     let w = gather(table, count, f);
     let leaves = w.leaves;
@@ -95,9 +98,9 @@ pub fn aim(table: &mut [u8], count: u16, f: u16, x: State) -> Aimed
 
 // Every leaf under term f, from guard true.
 fn gather(table: &mut [u8], count: u16, f: u16) -> Gathered
-    ensures { λ r. ⌜ (Gives (walkOf termLimit trueNumber f []) (now (table .entry)) count (r .refusal) (r .count) 0 (from noLeaf (r .leaves) 0 (r .have)) (now (table .exit))) × (r .have ≤ 64) ⌝ }
+    ensures { λ r. ⌜ (Gives (walkOf termLimit trueNumber f []) (now (table .entry)) count (r .refusal) (r .count) 0 (from noLeaf (r .leaves) 0 (r .have)) (now (table .exit))) × (r .have ≤ leafLimit) ⌝ }
 {
-    let mut found: [u16; 384] = [0; 384];
+    let mut found: [u16; FOUND] = [0; FOUND];
     let w = walk(
         table,
         &mut found,
@@ -117,7 +120,7 @@ fn gather(table: &mut [u8], count: u16, f: u16) -> Gathered
 }
 
 // Leaf i of a list; a blank one where there is none.
-pub fn leaf_of(leaves: [Leaf; 64], i: usize) -> Leaf
+pub fn leaf_of(leaves: [Leaf; numbers::LEAF_LIMIT], i: usize) -> Leaf
     ensures { λ r. ⌜ r ≡ getD leaves i noLeaf ⌝ }
 {
     if i < numbers::LEAF_LIMIT {
@@ -137,7 +140,7 @@ fn walk(
     x: u16,
     have: usize,
 ) -> Walked
-    requires { ⌜ (length (now leaves) ≡ 384) × (have ≤ 64) ⌝ }
+    requires { ⌜ (length (now leaves) ≡ 6 * leafLimit) × (have ≤ leafLimit) ⌝ }
     ensures { λ r. ⌜ Walks (walkOf fuel path x (leavesIn (now (leaves .entry)) have)) (now (table .entry)) count (r .refusal) (r .count) (r .have) (now (leaves .exit)) (now (table .exit)) ⌝ }
 {
     if fuel == 0 {
@@ -158,9 +161,9 @@ fn walk(
     leaf(table, leaves, count, path, t, have)
 }
 
-// A term met that is no choice: one leaf more, unless there are 64.
+// A term met that is no choice: one leaf more, unless there are as many as a call may have.
 fn leaf(table: &[u8], leaves: &mut [u16], count: u16, path: u16, t: Term, have: usize) -> Walked
-    requires { ⌜ (length (now leaves) ≡ 384) × (have ≤ 64) ⌝ }
+    requires { ⌜ (length (now leaves) ≡ 6 * leafLimit) × (have ≤ leafLimit) ⌝ }
     ensures { λ r. ⌜ Walks (leafOf (leavesIn (now (leaves .entry)) have) path t) (now (table .entry)) count (r .refusal) (r .count) (r .have) (now (leaves .exit)) (now (table .entry)) ⌝ }
 {
     if have < numbers::LEAF_LIMIT {
@@ -189,7 +192,7 @@ fn left(
     b: u16,
     have: usize,
 ) -> Walked
-    requires { ⌜ (length (now leaves) ≡ 384) × (have ≤ 64) ⌝ }
+    requires { ⌜ (length (now leaves) ≡ 6 * leafLimit) × (have ≤ leafLimit) ⌝ }
     ensures { λ r. ⌜ Walks (leftSideOf (walkOf fuel) path a b (leavesIn (now (leaves .entry)) have)) (now (table .entry)) count (r .refusal) (r .count) (r .have) (now (leaves .exit)) (now (table .exit)) ⌝ }
 {
     let g = factory::and_of(table, count, path, a);
@@ -222,7 +225,7 @@ fn right(
     c: u16,
     have: usize,
 ) -> Walked
-    requires { ⌜ (length (now leaves) ≡ 384) × (have ≤ 64) ⌝ }
+    requires { ⌜ (length (now leaves) ≡ 6 * leafLimit) × (have ≤ leafLimit) ⌝ }
     ensures { λ r. ⌜ Walks (rightSideOf (walkOf fuel) path a c (leavesIn (now (leaves .entry)) have)) (now (table .entry)) count (r .refusal) (r .count) (r .have) (now (leaves .exit)) (now (table .exit)) ⌝ }
 {
     let n = factory::not_of(table, count, a);
@@ -254,7 +257,7 @@ fn right(
 
 // One leaf more.
 fn push(leaves: &mut [u16], have: usize, guard: u16, t: Term)
-    requires { ⌜ (length (now leaves) ≡ 384) × (have < 64) ⌝ }
+    requires { ⌜ (length (now leaves) ≡ 6 * leafLimit) × (have < leafLimit) ⌝ }
     ensures { λ _. ⌜ leavesIn (now (leaves .exit)) (have + 1) ≡ leavesIn (now (leaves .entry)) have ++ (record { guard = guard; term = t } ∷ []) ⌝ }
 {
     let at = 6 * have;
@@ -282,7 +285,7 @@ fn byte(leaves: &[u16], at: usize) -> u8
 
 // Leaf i of the lent numbers.
 fn read(leaves: &[u16], i: usize) -> Leaf
-    requires { ⌜ i < 64 ⌝ }
+    requires { ⌜ i < leafLimit ⌝ }
     ensures { λ r. ⌜ r ≡ leafAt (now (leaves .entry)) i ⌝ }
 {
     let at = 6 * i;
@@ -299,11 +302,11 @@ fn read(leaves: &[u16], i: usize) -> Leaf
 }
 
 // The first n leaves by value.
-fn unpack(found: &[u16], n: usize) -> [Leaf; 64]
-    requires { ⌜ n ≤ 64 ⌝ }
+fn unpack(found: &[u16], n: usize) -> [Leaf; numbers::LEAF_LIMIT]
+    requires { ⌜ n ≤ leafLimit ⌝ }
     ensures { λ r. ⌜ from noLeaf r 0 n ≡ leavesIn (now (found .entry)) n ⌝ }
 {
-    let mut leaves = [NO_LEAF; 64];
+    let mut leaves = [NO_LEAF; numbers::LEAF_LIMIT];
     let mut i: usize = 0;
     while i < n {
         leaves[i] = read(found, i);
@@ -328,7 +331,7 @@ fn or_target(table: &mut [u8], count: u16, g: u16, l: Leaf) -> Made
 }
 
 // The or of the targets' guards, from the left starting at false.
-fn any_target(table: &mut [u8], count: u16, leaves: [Leaf; 64], n: usize) -> Made
+fn any_target(table: &mut [u8], count: u16, leaves: [Leaf; numbers::LEAF_LIMIT], n: usize) -> Made
     ensures { λ r. ⌜ Gives (each orTargetOf falseNumber (from noLeaf leaves 0 n)) (now (table .entry)) count (r .refusal) (r .count) 0 (r .number) (now (table .exit)) ⌝ }
 {
     let mut g: u16 = numbers::FALSE_NUMBER;

@@ -1,11 +1,26 @@
--- Laws of words, for every width k: what the operators give is a word, and how they wrap. Assumes nothing.
+-- Laws of words: a word in its fields; for every width k, what the operators give is a word, and how they wrap. Assumes nothing.
 use mathlib.Core.Path.{_≡_, ap, subst⁻¹, _∙_}
-use Prim.Native.Nat.{ℕ, zero, _+_, _-_, _*_, _%_, _^_, _<_}
+use Prim.Native.Nat.{ℕ, zero, _+_, _-_, _*_, _%_, _^_, _<_, _≤_}
 use native.Mathlib.Nat.{add-comm, mul-comm, le-of-lt, lt-of-le-of-lt, mul-le-mul-left, mul-lt-mul-of-pos-right, mod-lt, mod-self, mod-eq-of-lt, mod-add-mod, add-mod-right}
 use native.Mathlib.Omega.{arith}
 use lib.Count.{leading-of-zero}
 use lib.Pow.{pow-pos, pow-add, shr-le}
-use Rattle.words.specs.Words.{sumOf, differenceOf, productOf, leftOf, rightOf, zerosOf}
+use Rattle.words.specs.Words.{wordLimit, wordFields, lowOf, highOf, joinOf, sumOf, differenceOf, productOf, leftOf, rightOf, zerosOf}
+
+-- A word comes back from its fields.
+pub join-halves : (w : ℕ) → joinOf (lowOf w) (highOf w) ≡ w
+unfolding lowOf highOf joinOf
+join-halves w = omega arith
+
+-- A word that takes one field has nothing of the second.
+pub one-field : (l h k : ℕ) → wordFields ≤ 1 → joinOf l h ≡ joinOf l k
+unfolding joinOf
+one-field l h k p = omega arith
+
+-- What two fields hold is a word.
+pub join-word : {l h : ℕ} → l < 2 ^ 16 → h < 2 ^ 16 → joinOf l h < wordLimit
+unfolding joinOf
+join-word a b = omega arith
 
 module _ (k : ℕ) where
   -- what is taken modulo 2 ^ k is a word

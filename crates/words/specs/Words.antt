@@ -7,6 +7,36 @@ use lib.Count.{ones, leadingZeros}
 abbrev pub width : ℕ
 width = 16
 
+-- how many words there are
+abbrev pub wordLimit : ℕ
+wordLimit = 2 ^ width
+
+-- the largest
+abbrev pub lastWord : ℕ
+lastWord = wordLimit - 1
+
+-- ---- a word in fields of 16 bits, the low half first
+-- how many fields a word takes
+abbrev pub wordFields : ℕ
+wordFields = width / 16
+
+-- how many bytes
+abbrev pub wordBytes : ℕ
+wordBytes = width / 8
+
+-- the first field
+unfoldable pub lowOf : ℕ → ℕ
+lowOf w = w
+
+-- the second field; 0 where a word takes one
+unfoldable pub highOf : ℕ → ℕ
+highOf w = 0
+
+-- the word in two fields
+unfoldable pub joinOf : ℕ → ℕ → ℕ
+joinOf l h = l
+
+-- ---- the operators
 -- "sums wrap": 1 add
 abbrev pub sumOf : ℕ → ℕ → ℕ → ℕ
 sumOf k a b = (a + b) % 2 ^ k

@@ -1,69 +1,108 @@
-// Words of 16 bits: the operators of document 01 on u16. No function has a `requires`.
+// Words: the operators of document 01, and a word in the fields of 16 bits of a record or a term. The width stands in
+// this crate alone. No function has a `requires`.
 ghost use mathlib.Core.Path.{_≡_};
-ghost use Rattle.words.specs.Words.{width, sumOf, differenceOf, productOf, andOf, orOf, xorOf, leftOf, rightOf, onesOf, zerosOf};
+ghost use Rattle.words.specs.Words.{width, lowOf, highOf, joinOf, sumOf, differenceOf, productOf, andOf, orOf, xorOf, leftOf, rightOf, onesOf, zerosOf};
+
+pub type Word = u16;
+
+// A number of twice a word's width.
+pub type Wide = u32;
+
+// The bits of a word.
+pub const WIDTH: Word = 16;
+
+// The fields of 16 bits that a word takes.
+pub const FIELDS: u8 = (WIDTH / 16) as u8;
+
+// The bytes that a word takes.
+pub const BYTES: usize = WIDTH as usize / 8;
+
+// How many words there are.
+pub const WORDS: Wide = 1 << (WIDTH as Wide);
+
+// A word's first field.
+pub fn low(w: Word) -> u16
+    ensures { λ r. ⌜ r ≡ lowOf w ⌝ }
+{
+    w
+}
+
+// A word's second field; 0 where a word takes one.
+pub fn high(w: Word) -> u16
+    ensures { λ r. ⌜ r ≡ highOf w ⌝ }
+{
+    0
+}
+
+// The word in two fields.
+pub fn join(first: u16, second: u16) -> Word
+    ensures { λ r. ⌜ r ≡ joinOf first second ⌝ }
+{
+    first
+}
 
 // The sum, wrapped.
-pub fn add(a: u16, b: u16) -> u16
+pub fn add(a: Word, b: Word) -> Word
     ensures { λ r. ⌜ r ≡ sumOf width a b ⌝ }
 {
     std::num::wrapping_add_u16(a, b)
 }
 
 // The difference, wrapped.
-pub fn subtract(a: u16, b: u16) -> u16
+pub fn subtract(a: Word, b: Word) -> Word
     ensures { λ r. ⌜ r ≡ differenceOf width a b ⌝ }
 {
     std::num::wrapping_sub_u16(a, b)
 }
 
 // The low half of the product.
-pub fn multiply(a: u16, b: u16) -> u16
+pub fn multiply(a: Word, b: Word) -> Word
     ensures { λ r. ⌜ r ≡ productOf width a b ⌝ }
 {
-    (((a as u32) * (b as u32)) % 65536) as u16
+    (((a as Wide) * (b as Wide)) % WORDS) as Word
 }
 
-pub fn and(a: u16, b: u16) -> u16
+pub fn and(a: Word, b: Word) -> Word
     ensures { λ r. ⌜ r ≡ andOf a b ⌝ }
 {
     a & b
 }
 
-pub fn or(a: u16, b: u16) -> u16
+pub fn or(a: Word, b: Word) -> Word
     ensures { λ r. ⌜ r ≡ orOf a b ⌝ }
 {
     a | b
 }
 
-pub fn xor(a: u16, b: u16) -> u16
+pub fn xor(a: Word, b: Word) -> Word
     ensures { λ r. ⌜ r ≡ xorOf a b ⌝ }
 {
     a ^ b
 }
 
 // The amount is taken modulo the width.
-pub fn shift_left(a: u16, b: u16) -> u16
+pub fn shift_left(a: Word, b: Word) -> Word
     ensures { λ r. ⌜ r ≡ leftOf width a b ⌝ }
 {
-    a << (b % 16)
+    a << (b % WIDTH)
 }
 
 // The amount is taken modulo the width.
-pub fn shift_right(a: u16, b: u16) -> u16
+pub fn shift_right(a: Word, b: Word) -> Word
     ensures { λ r. ⌜ r ≡ rightOf width a b ⌝ }
 {
-    a >> (b % 16)
+    a >> (b % WIDTH)
 }
 
-pub fn count_ones(a: u16) -> u16
+pub fn count_ones(a: Word) -> Word
     ensures { λ r. ⌜ r ≡ onesOf a ⌝ }
 {
-    u16::count_ones(a) as u16
+    u16::count_ones(a) as Word
 }
 
-// 16 for 0.
-pub fn leading_zeros(a: u16) -> u16
+// The width for 0.
+pub fn leading_zeros(a: Word) -> Word
     ensures { λ r. ⌜ r ≡ zerosOf width a ⌝ }
 {
-    u16::leading_zeros(a) as u16
+    u16::leading_zeros(a) as Word
 }

@@ -9,6 +9,7 @@ pub operator-spec : {M : Type 1} → statement M
 unfolding operatorTermOf
 operator-spec =
     tie.close
-    (tie.spec (λ c κs. search needs) (λ c κs. search needs) (λ c κs. search needs) (λ c κs. search needs) (λ c. search needs) (λ c. search steps depth 12)
-    (λ c κs. search needs) (λ c κs. search needs) (λ c κs. search needs) (λ c. search needs) (λ c. search steps depth 12) (λ c κs. search needs)
-    (λ c. search needs) (λ c. search steps depth 12) (λ c κs. search needs) (λ c. search needs) (λ c. search steps depth 12))
+    (tie.spec (λ c κs. search needs) (λ c κs. search needs) (λ c κs. search needs) (λ c κs. search needs) (λ c κs. search needs) (λ c. search needs)
+    (λ c. search steps depth 12) (λ c κs. search needs) (λ c κs. search needs) (λ c κs. search needs) (λ c κs. search needs) (λ c κs. search needs)
+    (λ c. search needs) (λ c. search steps depth 12) (λ c κs. search needs) (λ c. search needs) (λ c. search steps depth 12) (λ c κs. search needs)
+    (λ c. search needs) (λ c. search steps depth 12))

@@ -5,13 +5,14 @@ use mathlib.Core.Path.{_≡_}
 use mathlib.Core.Bool.{true}
 use Prim.Native.Nat.{_-_, _≤_}
 use Rattle.semantics.specs.Rules.{upTo}
+use Rattle.semantics.specs.Print.{inputZeroed}
 use Rattle.rules.proofs.Follow.{up-start}
-use Rattle.forms.proofs.Taken.{zeroAfter, zeroed-miss, zeroed-more, zeroed-all}
+use Rattle.forms.proofs.Taken.{zeroed-miss, zeroed-more, zeroed-all}
 use Rattle.forms.proofs.inputs_zeroed.Statement.{statement}
 use Rattle.forms.proofs.inputs_zeroed.Tie as tie
 
 abbrev Inv-loop : tie.InvT-loop
-Inv-loop s i₀ i = (i ≤ 16) × (upTo i (zeroAfter s) ≡ true)
+Inv-loop s i₀ i = (i ≤ 16) × (upTo i (inputZeroed s) ≡ true)
 
 abbrev μ-loop : tie.MeasureT-loop
 μ-loop s i₀ i = 16 - i
@@ -25,5 +26,5 @@ loop-again c = (search needs, search (needs, zeroed-more))
 pub inputs-zeroed-spec : {M : Type 1} → statement M
 inputs-zeroed-spec =
     tie.close
-    (tie.spec Inv-loop μ-loop loop-holds (λ c. search needs) (λ c. search needs) (λ c κs. search needs) (λ c. search (needs, zeroed-miss)) (λ c. search needs)
+    (tie.spec Inv-loop μ-loop loop-holds (λ c. search needs) (λ c. search needs) (λ c. search needs) (λ c κs. search needs) (λ c. search (needs, zeroed-miss)) (λ c. search needs)
     (λ c. search needs) loop-again (λ c. search (needs, zeroed-all)))

@@ -4,14 +4,15 @@ use borrow.Author.Needs.{needs}
 use mathlib.Core.Path.{_≡_}
 use Prim.Native.Nat.{_-_, _*_, _≤_}
 use lib.ListN.{length, take}
-use Rattle.semantics.specs.Records.{pairAt}
+use Rattle.words.specs.Words.{wordBytes}
+use Rattle.semantics.specs.Records.{wordAt}
 use Rattle.forms.specs.Forms.{eachBelow}
 use Rattle.forms.proofs.Taken.{each-start, each-more, numbers-all}
 use Rattle.forms.proofs.numbers_in.Statement.{statement}
 use Rattle.forms.proofs.numbers_in.Tie as tie
 
 abbrev Inv-loop : tie.InvT-loop
-Inv-loop s numbers₀ i₀ numbers i = (i ≤ 16) × (length numbers ≡ 16) × (take i numbers ≡ eachBelow (λ j. pairAt s (2 * j)) i)
+Inv-loop s numbers₀ i₀ numbers i = (i ≤ 16) × (length numbers ≡ 16) × (take i numbers ≡ eachBelow (λ j. wordAt s (wordBytes * j)) i)
 
 abbrev μ-loop : tie.MeasureT-loop
 μ-loop s numbers₀ i₀ numbers i = 16 - i

@@ -1,6 +1,6 @@
 -- `put_input` meets its contract. Assumes nothing.
 use borrow.Author.Needs.{needs}
-use Rattle.forms.proofs.Written.{put-tagged}
+use Rattle.forms.proofs.Written.{put-input}
 use Rattle.forms.proofs.put_input.Statement.{statement}
 use Rattle.forms.proofs.put_input.Tie as tie
 
@@ -8,4 +8,4 @@ pub put-input-spec : {M : Type 1} → statement M
 put-input-spec =
     tie.close
     (tie.spec (λ c. search needs) (λ c. search needs) (λ c κs. search needs) (λ c. search needs) (λ c. search needs) (λ c κs. search needs) (λ c. search needs)
-    (λ c κs. search needs) (λ c. search needs) (λ c. search put-tagged))
+    (λ c κs. search needs) (λ c. search needs) (λ c. search put-input))

@@ -22,6 +22,7 @@ use Rattle.interpreter.proofs.datum.Reads as datum-reads
 use Rattle.interpreter.proofs.find.Reads as find-reads
 use Rattle.interpreter.proofs.given.Reads as given-reads
 use Rattle.interpreter.proofs.is_false.Reads as is-false-reads
+use Rattle.interpreter.proofs.link.Reads as link-reads
 use Rattle.interpreter.proofs.operator.Reads as operator-reads
 use Rattle.interpreter.proofs.places.Reads as places-reads
 use Rattle.interpreter.proofs.put_binding.Reads as put-binding-reads
@@ -68,22 +69,25 @@ abbrev run-under-below : ℕ → In 2 run-under-kinds.ps
 run-under-below t =
     and 2 run-under-kinds.ps (falls 2 run-under-kinds.ps _<_ μ-run-under t) run-under.Pre
 
-apply-stopped-requires : (t : ℕ) → apply-lts.Need-stopped-requires (stopped-reads.Asked, stopped-reads.Learnt, record-at-reads.Asked, record-at-reads.Learnt, run-under-below t, run-under.Post) (apply-at t) apply.Post
+apply-stopped-requires : (t : ℕ) → apply-lts.Need-stopped-requires (stopped-reads.Asked, stopped-reads.Learnt, record-at-reads.Asked, record-at-reads.Learnt, link-reads.Asked, link-reads.Learnt, run-under-below t, run-under.Post) (apply-at t) apply.Post
 apply-stopped-requires t c κs = search needs
 
-apply-returns : (t : ℕ) → apply-lts.Need-returns (stopped-reads.Asked, stopped-reads.Learnt, record-at-reads.Asked, record-at-reads.Learnt, run-under-below t, run-under.Post) (apply-at t) apply.Post
+apply-returns : (t : ℕ) → apply-lts.Need-returns (stopped-reads.Asked, stopped-reads.Learnt, record-at-reads.Asked, record-at-reads.Learnt, link-reads.Asked, link-reads.Learnt, run-under-below t, run-under.Post) (apply-at t) apply.Post
 apply-returns t c = search steps
 
-apply-record-at-requires : (t : ℕ) → apply-lts.Need-record-at-requires (stopped-reads.Asked, stopped-reads.Learnt, record-at-reads.Asked, record-at-reads.Learnt, run-under-below t, run-under.Post) (apply-at t) apply.Post
+apply-record-at-requires : (t : ℕ) → apply-lts.Need-record-at-requires (stopped-reads.Asked, stopped-reads.Learnt, record-at-reads.Asked, record-at-reads.Learnt, link-reads.Asked, link-reads.Learnt, run-under-below t, run-under.Post) (apply-at t) apply.Post
 apply-record-at-requires t c κs = search needs
 
-apply-run-under-requires : (t : ℕ) → apply-lts.Need-run-under-requires (stopped-reads.Asked, stopped-reads.Learnt, record-at-reads.Asked, record-at-reads.Learnt, run-under-below t, run-under.Post) (apply-at t) apply.Post
+apply-link-requires : (t : ℕ) → apply-lts.Need-link-requires (stopped-reads.Asked, stopped-reads.Learnt, record-at-reads.Asked, record-at-reads.Learnt, link-reads.Asked, link-reads.Learnt, run-under-below t, run-under.Post) (apply-at t) apply.Post
+apply-link-requires t c κs = search needs
+
+apply-run-under-requires : (t : ℕ) → apply-lts.Need-run-under-requires (stopped-reads.Asked, stopped-reads.Learnt, record-at-reads.Asked, record-at-reads.Learnt, link-reads.Asked, link-reads.Learnt, run-under-below t, run-under.Post) (apply-at t) apply.Post
 apply-run-under-requires t c κs = search needs
 
-apply-same-length : (t : ℕ) → apply-lts.Need-same-length (stopped-reads.Asked, stopped-reads.Learnt, record-at-reads.Asked, record-at-reads.Learnt, run-under-below t, run-under.Post) (apply-at t) apply.Post
+apply-same-length : (t : ℕ) → apply-lts.Need-same-length (stopped-reads.Asked, stopped-reads.Learnt, record-at-reads.Asked, record-at-reads.Learnt, link-reads.Asked, link-reads.Learnt, run-under-below t, run-under.Post) (apply-at t) apply.Post
 apply-same-length t c = search needs
 
-apply-returns-2 : (t : ℕ) → apply-lts.Need-returns-2 (stopped-reads.Asked, stopped-reads.Learnt, record-at-reads.Asked, record-at-reads.Learnt, run-under-below t, run-under.Post) (apply-at t) apply.Post
+apply-returns-2 : (t : ℕ) → apply-lts.Need-returns-2 (stopped-reads.Asked, stopped-reads.Learnt, record-at-reads.Asked, record-at-reads.Learnt, link-reads.Asked, link-reads.Learnt, run-under-below t, run-under.Post) (apply-at t) apply.Post
 apply-returns-2 t c = search steps
 
 bind-evaluate-requires : (t : ℕ) → bind-lts.Need-evaluate-requires (evaluate-below t, evaluate.Post, run-under-below t, run-under.Post) (bind-at t) bind.Post
@@ -255,6 +259,8 @@ pub +apply+bind+evaluate+run-under-spec : {M : Type 1} → statement M
       stopped-reads.Learnt,
       record-at-reads.Asked,
       record-at-reads.Learnt,
+      link-reads.Asked,
+      link-reads.Learnt,
       run-under-below t,
       run-under.Post,
     )
@@ -263,6 +269,7 @@ pub +apply+bind+evaluate+run-under-spec : {M : Type 1} → statement M
     (apply-stopped-requires t)
     (apply-returns t)
     (apply-record-at-requires t)
+    (apply-link-requires t)
     (apply-run-under-requires t)
     (apply-same-length t)
     (apply-returns-2 t))

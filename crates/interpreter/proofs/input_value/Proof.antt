@@ -2,7 +2,6 @@
 use borrow.Author.Needs.{needs}
 use Rattle.notation.proofs.Follow.{values}
 use Rattle.semantics.specs.Run.{inputValue}
-use Rattle.interpreter.proofs.Values.{plains}
 use Rattle.interpreter.proofs.input_value.Statement.{statement}
 use Rattle.interpreter.proofs.input_value.Tie as tie
 
@@ -10,5 +9,5 @@ pub input-value-spec : {M : Type 1} → statement M
 unfolding inputValue
 input-value-spec =
     tie.close
-    (tie.spec (λ c κs. search needs) (λ c κs. search needs) (λ c κs. search needs) (λ c κs. search needs) (λ c. search (plains, values))
-    (λ c. search (plains, values)) (λ c. search (plains, values)) (λ c. search (plains, values)))
+    (tie.spec (λ c κs. search needs) (λ c κs. search needs) (λ c κs. search needs) (λ c κs. search needs) (λ c. search values) (λ c. search values) (λ c. search values)
+    (λ c. search values))

@@ -1,4 +1,5 @@
 -- `interpreter::word_in` meets its contract. Assumes nothing.
+use borrow.Author.Needs.{needs}
 use Rattle.interpreter.specs.Store.{shown}
 use Rattle.interpreter.proofs.Sorts.{word-there, word-missing}
 use Rattle.interpreter.proofs.word_in.Statement.{statement}
@@ -6,4 +7,4 @@ use Rattle.interpreter.proofs.word_in.Tie as tie
 
 pub word-in-spec : {M : Type 1} → statement M
 unfolding shown
-word-in-spec = tie.close (tie.spec (λ c. search word-there) (λ c. search word-missing))
+word-in-spec = tie.close (tie.spec (λ c κs. search needs) (λ c. search word-there) (λ c. search word-missing))

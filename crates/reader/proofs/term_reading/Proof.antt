@@ -9,6 +9,6 @@ pub term-reading-spec : {M : Type 1} → statement M
 unfolding termReading
 term-reading-spec =
     tie.close
-    (tie.spec (λ c κs. search needs) (λ c κs. search needs) (λ c κs. search needs) (λ c κs. search needs) (λ c. search values depth 12)
+    (tie.spec (λ c κs. search needs) (λ c κs. search needs) (λ c κs. search needs) (λ c κs. search needs) (λ c κs. search needs) (λ c. search values depth 12)
     (λ c. search values depth 12) (λ c. search values depth 12) (λ c. search values depth 12) (λ c. search values depth 12) (λ c. search values depth 12)
     (λ c. search values depth 12) (λ c. search values depth 12) (λ c. search values depth 12))
