@@ -164,7 +164,7 @@ module _ (xs : List Input) (sixteen : length xs ≡ inputCount) (good : every in
 
       result-taken : resultTaken (read .terms) (read .read) ≡ true
       unfolding resultTaken if_then_else_
-      result-taken = rw (truth-named (read .sim .st .S .sort), truth-named (read .sim .st .T .sort), read .sim .value .named .is) (go (read .read .halted))
+      result-taken = rw (truth-named (read .sim .state .S .sort), truth-named (read .sim .state .T .sort), read .sim .value .named .is) (go (read .read .halted))
         where
           go : (b : Bool) → pick b true true ≡ true
           go true = refl
@@ -183,8 +183,8 @@ module _ (xs : List Input) (sixteen : length xs ≡ inputCount) (good : every in
       one-read : OneOf (read .terms) (read .read .state) ≡ true
       one-read =
           let link = reading-link ns (h .session .accepted) (read .terms) (read .holds .fit .formed) small in
-          let a = link (read .read .state .assumed) ∙ ap readingIn (read .sim .st .S .is) in
-          let b = link (read .read .state .asserted) ∙ ap readingIn (read .sim .st .T .is) in
+          let a = link (read .read .state .assumed) ∙ ap readingIn (read .sim .state .S .is) in
+          let b = link (read .read .state .asserted) ∙ ap readingIn (read .sim .state .T .is) in
           rw (a, b, true-same (truth (read .sim .s)), true-same (truth (read .sim .t))) (never-both (read .sim))
 
       one-true : oneTrue h ns ≡ true

@@ -19,7 +19,7 @@ use Rattle.semantics.specs.Opening.{opening}
 use Rattle.semantics.specs.Fits.{fitsOf}
 use Rattle.semantics.specs.Evaluate.{refusedBy, haltedAgain, left, evaluated, badDepth, evaluateOf}
 use Rattle.semantics.specs.Reading.{nth, readings}
-use Rattle.terms.proofs.Laws.{terms-length}
+use Rattle.terms.proofs.Tables.{terms-length}
 use Rattle.typing.proofs.Grown.{Grown, still, more, grown-length}
 use Rattle.typing.proofs.Formed.{never, both}
 use Rattle.depth.proofs.Depth.{same-above}

@@ -17,7 +17,7 @@ use Rattle.semantics.specs.Steps.{settingOf, roomOf, Got, gave}
 use Rattle.semantics.specs.Opening.{badTableSize, inputTaken, openingOf, opening}
 use Rattle.semantics.specs.Fits.{sameTerms, noFree, isZero, fitsOf}
 use Rattle.typing.proofs.Grown.{grown-length, truth-named}
-use Rattle.typing.proofs.Steps.{Fit}
+use Rattle.typing.proofs.Does.{Fit}
 use Rattle.typing.proofs.States.{Stated}
 use Rattle.opening.specs.Openings.{openAll}
 use Rattle.opening.proofs.Order.{same-opening}

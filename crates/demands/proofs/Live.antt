@@ -27,11 +27,11 @@ use Rattle.semantics.specs.Evaluate.{advanced, refusedBy, haltedAgain, left, ev
 use Rattle.semantics.specs.Run.{Value, Ended, gives, inputsBound}
 use Rattle.semantics.specs.History.{Call, Accepted, History, acceptedAfter, called, ranOn, ranAll, runOfRules}
 use Rattle.typing.proofs.Formed.{never, by-test}
-use Rattle.typing.proofs.Steps.{Fit}
+use Rattle.typing.proofs.Does.{Fit}
 use Rattle.typing.proofs.Later.{fit-later}
 use Rattle.typing.proofs.Ruled.{ruled}
-use Rattle.soundness.proofs.Steps.{Const}
-use Rattle.soundness.proofs.Held.{En, en-step}
+use Rattle.soundness.proofs.Constants.{Const}
+use Rattle.soundness.proofs.Held.{MeansBindings, bindings-step}
 use Rattle.soundness.proofs.Sim.{ends, on-off, Sim, sim-out, sim-halt, sim-as}
 use Rattle.soundness.proofs.Outcomes.{starts}
 use Rattle.soundness.proofs.Onward.{ran-on, halted-on}
@@ -79,8 +79,8 @@ module _ (w : Result) (u : ℕ) (q : Result) where
     where
       go : (b : Bool) → w .halted ≡ b → Sim ns (ends o) us (resultIn (pick b (Halt (w .state) u) (Out (w .state) (w .value) u)) q)
       go true e =
-          let d = h .dead e in sim-halt f (h .st) d (λ v. on-off (h .s) (h .t) (gives v) (gives (h .v)) d ∙ h .sees)
-      go false e = sim-out (h .st) (h .value) (h .live e) (h .sees)
+          let d = h .dead e in sim-halt f (h .state) d (λ v. on-off (h .s) (h .t) (gives v) (gives (h .v)) d ∙ h .sees)
+      go false e = sim-out (h .state) (h .value) (h .live e) (h .sees)
 
 accepted-one : (rs : List Accepted) (k : Call) (w : Result) (u : ℕ) → acceptedAfter rs k (answerOf w u) ≡ rs ++ (record { rule = k .rule; depth = u } ∷ [])
 unfolding if_then_else_
@@ -132,7 +132,7 @@ module _ (xs : List Input) (sixteen : length xs ≡ inputCount) (good : every in
     pub terms : List Term
     pub read : Result
     pub holds : Holds xs l (h .session) (h .table) terms
-    pub environment : En ns (inputsBound xs ns) terms (opening xs .environment)
+    pub environment : MeansBindings ns (inputsBound xs ns) terms (opening xs .environment)
     pub sim : Sim ns (ends (runOfRules xs ns (h .rules))) terms read
     pub state : read .state ≡ h .session .state
     pub halts : read .halted ≡ h .session .halted
@@ -154,7 +154,7 @@ module _ (xs : List Input) (sixteen : length xs ≡ inputCount) (good : every in
           table = refl;
           adds = none;
           fit = o .fit;
-          state = record { assumed = s .st .S .sort; asserted = s .st .T .sort };
+          state = record { assumed = s .state .S .sort; asserted = s .state .T .sort };
           few = omega arith;
         };
         environment = o .environment;
@@ -217,10 +217,10 @@ module _ (xs : List Input) (sixteen : length xs ≡ inputCount) (good : every in
               table = ap (λ m. imageOf m us) (holds-length xs sixteen good l size (live .holds));
               adds = adds-on (live .holds .adds) (eval-adds (k .rule) (x .accepted) (k .allowance) 0 (opening xs .environment) (live .read .state) _ (live .terms) e);
               fit = d .step .fit;
-              state = record { assumed = d .holds .st .S .sort; asserted = d .holds .st .T .sort };
+              state = record { assumed = d .holds .state .S .sort; asserted = d .holds .state .T .sort };
               few = omega arith;
             };
-            environment = en-step (d .step) (live .environment);
+            environment = bindings-step (d .step) (live .environment);
             sim = answered-sim w u (h .result) (d .step .fit) (sim-as (ap ends (sym (rules-more xs ns (h .rules) (record { rule = k .rule; depth = u })))) (d .holds));
             state = answered-state w u (h .result);
             halts = answered-halted w u (h .result);

@@ -10,7 +10,7 @@ use Rattle.semantics.specs.declared.State.{State}
 use Rattle.semantics.specs.Numbers.{callTooWide, tableFull, depthSpent}
 use Rattle.semantics.specs.Steps.{Setting, Got, gave, refused, Make, deeper, next, _>>=_, give, refuse, reads, up, upOf, makeOf}
 use Rattle.semantics.specs.Evaluation.{evalOf}
-use Rattle.depth.proofs.Built.{Kept, kept-live}
+use Rattle.depth.proofs.Built.{Congruence, kept-live}
 
 pub data Known {A : Type 0} : Got A → Type 0 where
   result : {ts : List Term} {a : A} {u : ℕ} → Known (gave ts a u)
@@ -48,9 +48,9 @@ made ts us a b true j = result
 made ts us a b false true = result
 made ts us a b false false = full
 
-knows-kept : Kept (λ A m l. Knows m)
+knows-congruence : Congruence (λ A m l. Knows m)
 unfolding give refuse reads makeOf
-knows-kept =
+knows-congruence =
     record {
       giving = λ a. record { at = λ z ts. result };
       refusing = record { at = λ z ts. too-wide };
@@ -63,7 +63,7 @@ knows-eval : (rule : List ℕ) (b d i e : ℕ) (y : State) → Knows (evalOf rul
 unfolding evalOf refuse up
 knows-eval rule b zero i e y = record { at = λ z ts. spent }
 knows-eval rule b (suc d) i e y =
-    record { at = λ z ts. known-up (kept-live (λ A m l. Knows m) knows-kept rule b (evalOf rule b d) (evalOf rule b d) (knows-eval rule b d) i e y .at z ts) }
+    record { at = λ z ts. known-up (kept-live (λ A m l. Knows m) knows-congruence rule b (evalOf rule b d) (evalOf rule b d) (knows-eval rule b d) i e y .at z ts) }
 
 pub eval-known : (rule : List ℕ) (b d i e : ℕ) (y : State) (z : Setting) (ts : List Term) → Known (evalOf rule b d i e y z ts)
 eval-known rule b d i e y z ts = knows-eval rule b d i e y .at z ts

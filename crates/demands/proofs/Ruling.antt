@@ -20,7 +20,7 @@ use Rattle.semantics.specs.Rules.{every}
 use Rattle.semantics.specs.Opening.{badTableSize, inputTaken, opening}
 use Rattle.semantics.specs.Fits.{fitsOf}
 use Rattle.semantics.specs.Evaluate.{haltedAgain, left, evaluated, badDepth, evaluateOf}
-use Rattle.terms.proofs.Laws.{terms-length}
+use Rattle.terms.proofs.Tables.{terms-length}
 use Rattle.typing.proofs.Grown.{Grown}
 use Rattle.typing.proofs.Formed.{never, both}
 use Rattle.opening.proofs.Opened.{sized}

@@ -13,7 +13,7 @@ use Rattle.semantics.specs.declared.Term.{Term}
 use Rattle.semantics.specs.Rules.{every}
 use Rattle.semantics.specs.Terms.{termAt, termsIn, put, imageOf}
 use Rattle.semantics.specs.Fits.{isZero}
-use Rattle.terms.proofs.Laws.{terms-same}
+use Rattle.terms.proofs.Tables.{terms-same}
 use Rattle.terms.proofs.Put.{put-length, put-past, term-below, term-there}
 use Rattle.typing.proofs.Grown.{Grown, still, more, grown-length}
 

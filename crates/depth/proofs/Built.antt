@@ -24,14 +24,14 @@ use Rattle.semantics.specs.Evaluation.{Run, datumOf, procedureOf, abortOf, erro
 
 -- A relation between steps that each form of a step keeps. The terms that evaluations make are no free inputs, and the one refusal of their own
 -- is 10.
-pub record Kept (R : (A : Type 0) → Make A → Make A → Type 0) : Type 1 where
+pub record Congruence (R : (A : Type 0) → Make A → Make A → Type 0) : Type 1 where
   pub giving : {A : Type 0} (a : A) → R A (give a) (give a)
   pub refusing : {A : Type 0} → R A (refuse callTooWide) (refuse callTooWide)
   pub going-on : {A B : Type 0} {m l : Make A} {f g : A → Make B} → R A m l → ((a : A) → R B (f a) (g a)) → R B (m >>= f) (l >>= g)
   pub reading : {A B : Type 0} (f : List Term → B) (m l : B → Make A) → ((b : B) → R A (m b) (l b)) → R A (reads f m) (reads f l)
   pub making : (t : Term) → noFree t ≡ true → R ℕ (makeOf t) (makeOf t)
 
-module _ (R : (A : Type 0) → Make A → Make A → Type 0) (kept : Kept R) where
+module _ (R : (A : Type 0) → Make A → Make A → Type 0) (kept : Congruence R) where
   kept-map : {A B : Type 0} {m l : Make A} (f : A → B) → R A m l → R B (m ▹ f) (l ▹ f)
   unfolding _▹_
   kept-map f h = kept .going-on h (λ a. kept .giving (f a))

@@ -14,7 +14,7 @@ use Rattle.semantics.specs.declared.Result.{Result}
 use Rattle.semantics.specs.Numbers.{depthSpent, tableFull}
 use Rattle.semantics.specs.Steps.{Setting, Got, gave, refused, Make, deeper, next, _>>=_, give, refuse, reads, up, upOf, makeOf}
 use Rattle.semantics.specs.Evaluation.{liveOf, evalOf}
-use Rattle.depth.proofs.Built.{Kept, kept-live}
+use Rattle.depth.proofs.Built.{Congruence, kept-live}
 
 -- with at most the depth k, and with more
 pub data Cut (k : ℕ) {A : Type 0} : Got A → Got A → Type 0 where
@@ -58,9 +58,9 @@ module _ (k : ℕ) where
       go z x y (deep {ts = ts} {a = a} {u = u} b) = cut-deep u b (g a z ts)
       go z x y stop = stop
 
-  cuts-kept : Kept (λ A m l. Cuts k m l)
+  cuts-congruence : Congruence (λ A m l. Cuts k m l)
   unfolding give refuse reads makeOf
-  cuts-kept =
+  cuts-congruence =
       record {
         giving = λ a. record { at = λ z ts. same {u = 0} (omega arith) };
         refusing = record { at = λ z ts. stop };
@@ -81,7 +81,7 @@ eval-cuts rule b zero zero h i e y = record { at = λ z ts. stop }
 eval-cuts rule b zero (suc d) h i e y = record { at = λ z ts. cut-none (liveOf rule b (evalOf rule b d) i e y z ts) }
 eval-cuts rule b (suc k) zero h i e y = absurd (omega arith)
 eval-cuts rule b (suc k) (suc d) h i e y =
-    record { at = λ z ts. cut-up (kept-live (λ A m l. Cuts k m l) (cuts-kept k) rule b (evalOf rule b k) (evalOf rule b d) (eval-cuts rule b k d (omega arith)) i e y .at z ts) }
+    record { at = λ z ts. cut-up (kept-live (λ A m l. Cuts k m l) (cuts-congruence k) rule b (evalOf rule b k) (evalOf rule b d) (eval-cuts rule b k d (omega arith)) i e y .at z ts) }
 
 -- ---- the reported depth
 module _ (rule : List ℕ) (b i e : ℕ) (y : State) (z : Setting) (ts : List Term) where

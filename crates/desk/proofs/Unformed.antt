@@ -17,7 +17,7 @@ use Rattle.semantics.specs.Terms.{termsIn, sortOf, namesTruth}
 use Rattle.semantics.specs.Opening.{badTableSize, inputTaken, opening}
 use Rattle.semantics.specs.Fits.{fitsOf}
 use Rattle.semantics.specs.Reading.{numbersTaken, resultTaken, readOutcome, readOf}
-use Rattle.terms.proofs.Laws.{at-high}
+use Rattle.terms.proofs.Tables.{at-high}
 use Rattle.typing.proofs.Formed.{both, never}
 use Rattle.opening.proofs.Opened.{sized}
 use Rattle.forms.specs.Forms.{resultFormed, noTerm, resultIn}

@@ -1,3 +1,3 @@
 pub mod Taken
 pub mod Written
-pub mod Kept
+pub mod RoundTrip

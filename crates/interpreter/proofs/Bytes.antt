@@ -10,7 +10,7 @@ use lib.ListN.{length, getD, set, replicate, length-replicate, getD-replicate, t
 use lib.Seq.{getD-take, getD-append-add, length-take-le, take-all, getD-set-same, getD-set-other, ext-getD}
 use Rattle.semantics.specs.declared.Record.{Record}
 use Rattle.semantics.specs.Records.{recordAt}
-use Rattle.interpreter.specs.Promise.{bytesOf, put, Kept}
+use Rattle.interpreter.specs.Promise.{bytesOf, put, StoreKept}
 
 halves : (x : ℕ) → x % 256 + 256 * (x / 256) ≡ x
 halves x = omega arith
@@ -53,7 +53,7 @@ module _ (s : List ℕ) (n : ℕ) (x : Record) (room : 8 * n + 8 ≤ length s) w
       )
 
   -- the places below
-  pub put-kept : Kept s n (put s n x) (n + 1)
+  pub put-kept : StoreKept s n (put s n x) (n + 1)
   put-kept = record { grows = omega arith; long = put-length; same = put-below }
 
 -- a record whose bytes are the same in two stores

@@ -2,5 +2,5 @@ pub mod Sorts
 pub mod Values
 pub mod Bytes
 pub mod Chains
-pub mod Steps
+pub mod Runs
 pub mod Inputs

@@ -5,7 +5,7 @@ use Prim.Native.Nat.{ℕ, _<_, _≤_}
 use lib.Dec.{eqb}
 use borrow.Author.Tests.{ne-eqb, lt-ltb, le-ltb}
 use Rattle.words.specs.Words.{lowOf, highOf}
-use Rattle.words.proofs.Laws.{join-halves}
+use Rattle.words.proofs.Words.{join-halves}
 use Rattle.notation.specs.Notation.{if_then_else_, if_equals_then_else_, if_below_then_else_}
 use Rattle.operators.specs.Operators.{operandsOf, givesTruthOf, operateOf}
 use Rattle.semantics.specs.declared.Outcome.{Outcome}

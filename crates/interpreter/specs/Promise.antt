@@ -43,7 +43,7 @@ pub record Found (s : List ℕ) (e p : ℕ) (v : Held) : Type 0 where
   pub low : linkOf v ≤ e
 
 -- The store s with k places taken has become y with n taken: the k places are as they were.
-pub record Kept (s : List ℕ) (k : ℕ) (y : List ℕ) (n : ℕ) : Type 0 where
+pub record StoreKept (s : List ℕ) (k : ℕ) (y : List ℕ) (n : ℕ) : Type 0 where
   pub grows : k ≤ n
   pub long : length y ≡ length s
   pub same : (i : ℕ) → i < 8 * k → getD y i 0 ≡ getD s i 0
@@ -69,4 +69,4 @@ callIn s rule d f v k = callStored (placesIn (length s)) (storedOf (placesIn (le
 pub record Runs (m : Stored) (s : List ℕ) (k : ℕ) (o : Ran) (y : List ℕ) : Type 0 where
   pub is : storedBy (valueIn y) o ≡ m
   pub low : linkOf (o .value) ≤ o .taken
-  pub kept : Kept s k y (o .taken)
+  pub kept : StoreKept s k y (o .taken)

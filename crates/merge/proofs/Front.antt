@@ -1,7 +1,7 @@
 -- The first n elements of an array in a memory slot, lent as a `&[T]` for a lifetime of a call, and back.
---     Kept             what the slot's holder keeps while the elements are lent: the lender's part, the other elements, and that there are m in all
---     lends-front      the array xs of m lies at (b, o)  ⊢ ⇛ ∃ γ. own (the `&κ [T]` ((b, o), γ, take n xs)) ∗ Kept
---     front-back       [†κ] ∗ Kept  ⊢ ⇛ the array xs of m lies at (b, o)
+--     LenderKeeps      what the slot's holder keeps while the elements are lent: the lender's part, the other elements, and that there are m in all
+--     lends-front      the array xs of m lies at (b, o)  ⊢ ⇛ ∃ γ. own (the `&κ [T]` ((b, o), γ, take n xs)) ∗ LenderKeeps
+--     front-back       [†κ] ∗ LenderKeeps  ⊢ ⇛ the array xs of m lies at (b, o)
 -- Each is shown under the logic's rules, `Given`. Assumes nothing.
 use mathlib.Core.Path.{_≡_, refl, ap}
 use Prim.Native.Nat.{ℕ, zero, suc, _+_, _≤_}
@@ -44,8 +44,8 @@ module _ (R : RattleType) where
   past (suc n) [] b o = ftrue
   past (suc n) (x ∷ xs) b o = past n xs b (o + mem R .size)
 
-  abbrev pub Kept : Lft → ℕ → ℕ → List X → ℕ → ℕ → Fml
-  Kept κ n m xs b o = fsep (flent κ (arr-parts (shares R) (length (take n xs)) .part fullShare (take n xs) b o)) (fsep (past n xs b o) (feq ℕ (length xs) m))
+  abbrev pub LenderKeeps : Lft → ℕ → ℕ → List X → ℕ → ℕ → Fml
+  LenderKeeps κ n m xs b o = fsep (flent κ (arr-parts (shares R) (length (take n xs)) .part fullShare (take n xs) b o)) (fsep (past n xs b o) (feq ℕ (length xs) m))
 
   module _ {M : Type 1} (𝓤 : URA M) (H : Heap 𝓤) (A : Atoms 𝓤) (W : Given 𝓤 H A) where
     cut : (n : ℕ) (xs : List X) (b o : ℕ) → ent 𝓤 (sem 𝓤 H A (all xs b o)) (sep 𝓤 (sem 𝓤 H A (all (take n xs) b o)) (sem 𝓤 H A (past n xs b o)))
@@ -64,16 +64,16 @@ module _ (R : RattleType) where
 
     module _ (one : Single (R .mir)) (κ : Lft) (n m : ℕ) (xs : List X) (b o : ℕ) where
       pub lends-front : (ℓ : Lifetime) → Room R (length (take n xs)) → ent 𝓤 (sem 𝓤 H A (partAt (Array R m) fullShare xs b o))
-          (H .⇛ (ex 𝓤 (λ (γ : GName). sep 𝓤 (sem 𝓤 H A (ShrSlice ℓ κ R .own (record { ptr = (b, o); name = γ; now = take n xs }) (sliceVal (b, o) (length (take n xs)) ∷ []))) (sem 𝓤 H A (Kept κ n m xs b o)))))
+          (H .⇛ (ex 𝓤 (λ (γ : GName). sep 𝓤 (sem 𝓤 H A (ShrSlice ℓ κ R .own (record { ptr = (b, o); name = γ; now = take n xs }) (sliceVal (b, o) (length (take n xs)) ∷ []))) (sem 𝓤 H A (LenderKeeps κ n m xs b o)))))
       lends-front ℓ room =
           qed W (‵ (partAt (Array R m) fullShare xs b o) ∷ []) ∵ updating ! $ use1 W (‵ (arr-parts (shares R) m .part fullShare xs b o)) (array-apart 𝓤 H A W R fullShare one m xs b o) $ fsplit ! $ feqL ! (λ e.
           use1 W (‵ (all (take n xs) b o) ⊛ ‵ (past n xs b o)) (cut n xs b o) $ split ! $ feqI ! ℕ (length (take n xs)) (length (take n xs)) refl $ fjoin ! $
           use1 W (later (some (λ (γ : GName). ‵ (ShrSlice ℓ κ R .own (record { ptr = (b, o); name = γ; now = take n xs }) (sliceVal (b, o) (length (take n xs)) ∷ [])) ⊛ ‵ (flent κ (arr-parts (shares R) (length (take n xs)) .part fullShare (take n xs) b o)))))
           (lends-shr-slice 𝓤 H A W R ℓ κ fullShare (take n xs) b o room) $ await ! tt $ pick ! (λ γ. split ! $ at-once ! $
-          show ! (λ (γ′ : GName). sep 𝓤 (sem 𝓤 H A (ShrSlice ℓ κ R .own (record { ptr = (b, o); name = γ′; now = take n xs }) (sliceVal (b, o) (length (take n xs)) ∷ []))) (sem 𝓤 H A (Kept κ n m xs b o))) γ $ frame ! $
+          show ! (λ (γ′ : GName). sep 𝓤 (sem 𝓤 H A (ShrSlice ℓ κ R .own (record { ptr = (b, o); name = γ′; now = take n xs }) (sliceVal (b, o) (length (take n xs)) ∷ []))) (sem 𝓤 H A (LenderKeeps κ n m xs b o))) γ $ frame ! $
           feqI ! ℕ (length xs) m e $ move ! (2 ∷ 0 ∷ []) $ fjoin ! $ move ! (1 ∷ 0 ∷ []) $ fjoin ! $ done !))
 
-      pub front-back : ent 𝓤 (sep 𝓤 (A .dead κ) (sem 𝓤 H A (Kept κ n m xs b o))) (H .⇛ (sem 𝓤 H A (partAt (Array R m) fullShare xs b o)))
+      pub front-back : ent 𝓤 (sep 𝓤 (A .dead κ) (sem 𝓤 H A (LenderKeeps κ n m xs b o))) (H .⇛ (sem 𝓤 H A (partAt (Array R m) fullShare xs b o)))
       front-back =
-          qed W (‵ (fdead κ) ∷ ‵ (Kept κ n m xs b o) ∷ []) ∵ updating ! $ move ! (1 ∷ []) $ fsplit ! $ move ! (2 ∷ 0 ∷ []) $ lent-back ! tt $ fsplit ! $ drop ! $ move ! (1 ∷ []) $ fsplit ! $ move ! (1 ∷ []) $ feqL ! (λ e.
+          qed W (‵ (fdead κ) ∷ ‵ (LenderKeeps κ n m xs b o) ∷ []) ∵ updating ! $ move ! (1 ∷ []) $ fsplit ! $ move ! (2 ∷ 0 ∷ []) $ lent-back ! tt $ fsplit ! $ drop ! $ move ! (1 ∷ []) $ fsplit ! $ move ! (1 ∷ []) $ feqL ! (λ e.
           move ! (1 ∷ 0 ∷ []) $ use2 W (‵ (all xs b o)) (paste n xs b o) $ feqI ! ℕ (length xs) m e $ fjoin ! $ use1 W (‵ (partAt (Array R m) fullShare xs b o)) (array-whole 𝓤 H A W R fullShare m xs b o) $ at-once ! $ done !)

@@ -9,7 +9,7 @@ use borrow.Author.Tests.{eq-eqb, ne-eqb, eqb-true}
 use Rattle.notation.specs.Notation.{pick, if_equals_then_else_}
 use Rattle.semantics.specs.Steps.{Setting, Got, gave, refused, Make, deeper, next, _>>=_, _▹_, give, refuse, each}
 use Rattle.terms.specs.Gives.{Gives}
-use Rattle.terms.proofs.Steps.{deeper-zero, gives-value, gives-none, kept-on, then-on}
+use Rattle.terms.proofs.Gives.{deeper-zero, gives-value, gives-none, appends-on, then-on}
 use Rattle.merge.specs.Passes.{onward}
 
 pub give-then : {A B : Type 0} (a : A) (f : A → Make B) → give a >>= f ≡ f a
@@ -79,7 +79,7 @@ module _ {A B : Type 0} {r : ℕ} (a : A) (f : A → Make B) where
       where
         go : (t : Bool) → eqb r 0 ≡ t → Gives (m >>= f) s n q e w b z
         go true h = then-on f g (eqb-true _ _ h) (rw h at k)
-        go false h = record { is = (rw h at k) .is ∙ rw (← g .is, h) refl; kept = kept-on (g .kept) (k .kept) }
+        go false h = record { is = (rw h at k) .is ∙ rw (← g .is, h) refl; kept = appends-on (g .kept) (k .kept) }
 
 pub onward-then : {A B C : Type 0} (r : ℕ) (a : A) (f : A → Make B) (g : B → Make C) → onward r a f >>= g ≡ onward r a (λ x. f x >>= g)
 unfolding onward if_equals_then_else_ _>>=_ refuse

@@ -15,7 +15,7 @@ use Rattle.semantics.specs.declared.State.{State}
 use Rattle.semantics.specs.Steps.{Make, _>>=_, _▹_, give, each}
 use Rattle.semantics.specs.Merge.{assumedStep, assertedStep, mergeStatesOf, valueStepOf, mergeValuesOf, finishOf, mergeOf}
 use Rattle.terms.specs.Gives.{Gives, from}
-use Rattle.terms.proofs.Steps.{then-stop, then-on}
+use Rattle.terms.proofs.Gives.{then-stop, then-on}
 use Rattle.merge.specs.Branches.{noBranch}
 use Rattle.merge.specs.Passes.{Carry, onward, stateStep, passStep, met, placeOf, passOf, mergedOf}
 use Rattle.merge.proofs.Lists.{replicate-snoc, reverse-replicate, getD-reverse, from-take, from-past, from-append}

@@ -1,4 +1,4 @@
-pub mod Laws
+pub mod Inputs
 pub mod Order
 pub mod Room
 pub mod Opened

@@ -20,7 +20,7 @@ use Rattle.semantics.specs.Steps.{Got, gave, refused, settingOf}
 use Rattle.semantics.specs.Opening.{badTableSize, inputTaken, opening, openingFrom, sessionOf, openOf}
 use Rattle.terms.specs.Search.{codeSetting}
 use Rattle.terms.specs.Gives.{shown, Gives, wiped}
-use Rattle.terms.proofs.Laws.{terms-length}
+use Rattle.terms.proofs.Tables.{terms-length}
 use Rattle.opening.specs.Openings.{openAll}
 use Rattle.opening.proofs.Order.{same-opening}
 use Rattle.opening.proofs.Room.{Roomy, roomy, Link, all-roomy}

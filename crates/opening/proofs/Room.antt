@@ -18,7 +18,7 @@ use Rattle.semantics.specs.Opening.{inputTerm}
 use Rattle.terms.specs.Search.{codeSetting}
 use Rattle.typing.proofs.Grown.{Grown, still, more, grown-on, at-newest, Sort, Value, value-grown, value-of, binding-named}
 use Rattle.typing.proofs.Formed.{There, find-there, find-same}
-use Rattle.typing.proofs.Steps.{Lies}
+use Rattle.typing.proofs.Does.{Lies}
 use Rattle.typing.proofs.Factory.{there-sort, laid-constant, laid-word, binding-sort}
 use Rattle.opening.specs.Openings.{openFrom, openAll}
 

@@ -20,7 +20,7 @@ use Rattle.semantics.specs.Opening.{opening}
 use Rattle.semantics.specs.Fits.{fitsOf}
 use Rattle.semantics.specs.Answers.{answerOf}
 use Rattle.semantics.specs.Evaluate.{refusedBy, haltedAgain, left, evaluated, badDepth, evaluateOf}
-use Rattle.typing.proofs.Steps.{Post, did, not-did}
+use Rattle.typing.proofs.Does.{Post, did, not-did}
 use Rattle.typing.proofs.Evaluation.{eval-does}
 use Rattle.sessions.proofs.Facts.{fitting}
 use Rattle.typing.proofs.Ruled.{ruled}

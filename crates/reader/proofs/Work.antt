@@ -20,7 +20,7 @@ use Rattle.semantics.specs.declared.Outcome.the-variants.{Refused}
 use Rattle.semantics.specs.Numbers.{workShort}
 use Rattle.semantics.specs.Terms.{termAt, termsIn}
 use Rattle.semantics.specs.Reading.{readingOf, nothing, isTrue, termReading, nth, readings, resultOutcome, readIn}
-use Rattle.terms.proofs.Laws.{terms-length}
+use Rattle.terms.proofs.Tables.{terms-length}
 use Rattle.reader.specs.Reader.{unpackedOf, lowerOf, Reads, outcomeIn}
 
 -- ---- a place

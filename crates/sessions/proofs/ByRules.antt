@@ -22,11 +22,11 @@ use Rattle.semantics.specs.Answers.{answerOf}
 use Rattle.semantics.specs.Evaluate.{refusedBy, advanced, evaluated}
 use Rattle.terms.specs.Search.{codeSetting}
 use Rattle.terms.specs.Gives.{shown, Gives, wiped}
-use Rattle.terms.proofs.Laws.{terms-length}
+use Rattle.terms.proofs.Tables.{terms-length}
 use Rattle.terms.proofs.Wiped.{restored}
 use Rattle.terms.proofs.Image.{image-whole}
 use Rattle.typing.proofs.Ruled.{ruled}
-use Rattle.typing.proofs.Steps.{Post, did, not-did}
+use Rattle.typing.proofs.Does.{Post, did, not-did}
 use Rattle.typing.proofs.Evaluation.{eval-does}
 use Rattle.sessions.specs.Entered.{Enters}
 use Rattle.sessions.proofs.Facts.{Fitting, fitting}

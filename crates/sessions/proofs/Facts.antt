@@ -18,10 +18,10 @@ use Rattle.semantics.specs.Rules.{every}
 use Rattle.semantics.specs.Terms.{termsIn, sameOf, wellFormed}
 use Rattle.semantics.specs.Opening.{inputTaken, opening}
 use Rattle.semantics.specs.Fits.{sameTerms, noFree, isZero, fitsOf}
-use Rattle.terms.proofs.Laws.{terms-length}
+use Rattle.terms.proofs.Tables.{terms-length}
 use Rattle.typing.proofs.Grown.{Grown, still, more, grown-on, at-lower, at-newest, Sort, sort-grown, truth-at}
 use Rattle.typing.proofs.Formed.{never, both, same-true}
-use Rattle.typing.proofs.Steps.{Fit, there-grown}
+use Rattle.typing.proofs.Does.{Fit, there-grown}
 use Rattle.typing.proofs.Later.{formed-later}
 use Rattle.typing.proofs.States.{Stated}
 use Rattle.opening.proofs.Opened.{Sized, sized}

@@ -7,7 +7,7 @@ use native.Mathlib.Omega.{arith}
 use lib.ListN.{length, getD}
 use lib.Dec.{eqb}
 use borrow.Author.Tests.{lt-ltb}
-use Rattle.words.proofs.Laws.{join-halves}
+use Rattle.words.proofs.Words.{join-halves}
 use Rattle.notation.specs.Notation.{pick, if_equals_then_else_}
 use Rattle.semantics.specs.declared.Term.{Term}
 use Rattle.semantics.specs.declared.Input.{Input}
@@ -19,13 +19,13 @@ use Rattle.semantics.specs.Run.{Value, truth, word, binding, none, inputValue, 
 use Rattle.semantics.proofs.Fields.{high-unused}
 use Rattle.typing.proofs.Grown.{Grown, still, Value as Named, value-grown, value-of, binding-named}
 use Rattle.typing.proofs.Formed.{There}
-use Rattle.typing.proofs.Steps.{Lies, Fit, Post, did, not-did, Does, does-give, does-then, does-map, does-weaken, does-make}
+use Rattle.typing.proofs.Does.{Lies, Fit, Post, did, not-did, Does, does-give, does-then, does-map, does-weaken, does-make}
 use Rattle.typing.proofs.Factory.{there-sort, binding-sort}
 use Rattle.soundness.proofs.Means.{termMeaning, meaning, meaning-grown, meaning-past}
 use Rattle.soundness.proofs.BySort.{there-means, means-binding}
-use Rattle.soundness.proofs.Held.{Is, En}
+use Rattle.soundness.proofs.Held.{MeansValue, MeansBindings}
 
-is-grown : {ns : List ℕ} {ts us : List Term} {v : Value} {x : ℕ} → Grown ts us → Is ns v ts x → Is ns v us x
+is-grown : {ns : List ℕ} {ts us : List Term} {v : Value} {x : ℕ} → Grown ts us → MeansValue ns v ts x → MeansValue ns v us x
 is-grown {ns} {x = x} g h = record { named = value-grown g (h .named); is = meaning-grown ns x g (h .named .low) ∙ h .is }
 
 -- ---- an input's term
@@ -80,15 +80,15 @@ chained (v ∷ vs) = binding v (chained vs)
 
 data Ins (ns : List ℕ) : List Value → List Term → List ℕ → Type 0 where
   no-in : {ts : List Term} → Ins ns [] ts []
-  also-in : {v : Value} {vs : List Value} {ts : List Term} {x : ℕ} {xs : List ℕ} → Is ns v ts x → Ins ns vs ts xs → Ins ns (v ∷ vs) ts (x ∷ xs)
+  also-in : {v : Value} {vs : List Value} {ts : List Term} {x : ℕ} {xs : List ℕ} → MeansValue ns v ts x → Ins ns vs ts xs → Ins ns (v ∷ vs) ts (x ∷ xs)
 
 -- a chain's end, or a binding
 data Tail (ns : List ℕ) : Value → List Term → ℕ → Type 0 where
   tail-end : {ts : List Term} {e : ℕ} → e ≡ noBinding → Tail ns none ts e
-  tail-on : {v : Value} {ts : List Term} {e : ℕ} → En ns v ts e → Tail ns v ts e
+  tail-on : {v : Value} {ts : List Term} {e : ℕ} → MeansBindings ns v ts e → Tail ns v ts e
 
 module _ {n : ℕ} {ns : List ℕ} where
-  tail-laid : {ts : List Term} {v x : ℕ} {a b : Value} → Is ns a ts v → Tail ns b ts x → Lies n ts (term bindingTerm 0 v x 0)
+  tail-laid : {ts : List Term} {v x : ℕ} {a b : Value} → MeansValue ns a ts v → Tail ns b ts x → Lies n ts (term bindingTerm 0 v x 0)
   unfolding laidOut if_equals_then_else_
   tail-laid h (tail-end e) = record { is = rw (h .named .is, e) }
   tail-laid {x = x} h (tail-on k) = record { is = rw (h .named .is, binding-named (k .sort), or-true (eqb x noBinding)) }
@@ -98,7 +98,7 @@ module _ {n : ℕ} {ns : List ℕ} where
   tail-means {x = x} f g (tail-on k) = meaning-grown ns x g (k .sort .low) ∙ k .is
 
 module _ {l n : ℕ} {ns : List ℕ} where
-  input-does : {ts : List Term} (i : ℕ) (x : Input) → Fit n ts → i < inputCount → Does l n (makeOf (inputTerm i x)) ts (Is ns (inputValue x (getD ns i 0)))
+  input-does : {ts : List Term} (i : ℕ) (x : Input) → Fit n ts → i < inputCount → Does l n (makeOf (inputTerm i x)) ts (MeansValue ns (inputValue x (getD ns i 0)))
   input-does {ts} i x f k =
       let m = makes-input n ns i x k in
       does-weaken (λ us a g j t. record { named = m .named us a t; is = there-means ns j t ∙ m .means (meaning ns us) }) (does-make f (record { is = m .lies ts }))
@@ -147,13 +147,13 @@ from-constants : (xs : List Input) → openingOf xs (settingOf mostTable) [] ≡
 unfolding openingOf _>>=_ makeOf findOf sameOf
 from-constants xs = refl
 
-tail-en : {ns : List ℕ} {v : Value} {ts : List Term} {e : ℕ} → (v ≡ none → ⊥) → Tail ns v ts e → En ns v ts e
-tail-en d (tail-end e) = absurd (d refl)
-tail-en d (tail-on h) = h
+tail-bindings : {ns : List ℕ} {v : Value} {ts : List Term} {e : ℕ} → (v ≡ none → ⊥) → Tail ns v ts e → MeansBindings ns v ts e
+tail-bindings d (tail-end e) = absurd (d refl)
+tail-bindings d (tail-on h) = h
 
 pub record Opens (n : ℕ) (ns : List ℕ) (v : Value) (ts : List Term) (e : ℕ) : Type 0 where
   pub fit : Fit n ts
-  pub environment : En ns v ts e
+  pub environment : MeansBindings ns v ts e
 
 pub opening-means : {n : ℕ} (ns : List ℕ) (xs : List Input) → length xs ≡ inputCount → inputCount ≤ length ns
     → {ts : List Term} {e u : ℕ} → openingOf xs (settingOf mostTable) [] ≡ gave ts e u → Opens n ns (inputsBound xs ns) ts e
@@ -175,5 +175,5 @@ opening-means {n} ns xs l m {ts} {e} {u} q =
     go x y (did {us = us} {a = a} g f t) z =
         let i : us ≡ ts = cc in let j : a ≡ e = cc in
         subst (λ b. Opens n ns (inputsBound xs ns) ts b) j (subst (λ vs. Opens n ns (inputsBound xs ns) vs a) i
-        (record { fit = f; environment = subst (λ v. En ns v us a) values-are (tail-en (not-none xs l) t) }))
+        (record { fit = f; environment = subst (λ v. MeansBindings ns v us a) values-are (tail-bindings (not-none xs l) t) }))
     go x y not-did z = let w : _≡_ {A = ℕ} 0 1 = cc in absurd (omega arith)

@@ -16,9 +16,9 @@ use Rattle.semantics.specs.Terms.{termWord, at, sortOf}
 use Rattle.semantics.specs.Run.{Value, truth, word, procedure, binding, wordIn, operationValue}
 use Rattle.typing.proofs.Grown.{Sort}
 use Rattle.typing.proofs.Formed.{never, There}
-use Rattle.typing.proofs.Steps.{Fit}
+use Rattle.typing.proofs.Does.{Fit}
 use Rattle.soundness.proofs.Means.{isTrue, wrongValue, operatorMeaning, termMeaning, meaning, meaning-at}
-use Rattle.soundness.proofs.Steps.{isConstant}
+use Rattle.soundness.proofs.Constants.{isConstant}
 
 -- ---- a term by its sort
 pub data Kind (t : Term) : ℕ → Type 0 where

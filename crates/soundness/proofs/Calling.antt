@@ -19,20 +19,20 @@ use Rattle.semantics.specs.Evaluation.{Run, underOf, applyOf, targetOf, targets
 use Rattle.semantics.specs.Run.{Value, truth, word, procedure, binding, none, gives, errs, Running, isAProcedure, callRun}
 use Rattle.typing.proofs.Grown.{Sort, sort-grown}
 use Rattle.typing.proofs.Formed.{never, Laid, laid-at, procedure-names}
-use Rattle.typing.proofs.Steps.{Fit}
+use Rattle.typing.proofs.Does.{Fit}
 use Rattle.soundness.proofs.Means.{termMeaning, meaning}
-use Rattle.soundness.proofs.Steps.{Const, Step, stay, step-on, Does, does-give, does-then, does-map, does-weaken, does-read, does-with, does-if, does-eq, does-refused}
+use Rattle.soundness.proofs.Constants.{Const, Step, stay, step-on, Does, does-give, does-then, does-map, does-weaken, does-read, does-with, does-if, does-eq, does-refused}
 use Rattle.soundness.proofs.BySort.{means-at, means-procedure, choice-kind, procedure-kind}
-use Rattle.soundness.proofs.Held.{Bo, Is, En, bo-step, is-step, en-step, no-bo, yes-bo}
+use Rattle.soundness.proofs.Held.{MeansTruth, MeansValue, MeansBindings, truth-step, value-step, bindings-step, false-means, true-means}
 use Rattle.soundness.proofs.Factory.{or-does, binding-does, no-procedure}
-use Rattle.soundness.proofs.Sim.{Seen, on, asm, ast, StIs, st-step, Sim, Spends, full, over, Sound, Sims, on-asm, on-ast, on-off, stops-dead, runs-live, assume-does, assert-does, sim-halt, sim-as}
-use Rattle.soundness.proofs.Merging.{Sem, BrIs, Brs, no-br, also, brs-step, br-is, any, merge-does}
-use Rattle.soundness.proofs.Cases.{Branches, ast-live}
-use Rattle.soundness.proofs.Walking.{LeafIs, Leaves, no-leaf, leaf, some-of, leaf-step, leaves-step, walk-does}
+use Rattle.soundness.proofs.Sim.{Seen, on, assumed, asserted, StateMeans, state-step, Sim, Spends, full, over, Sound, Sims, on-assumed, on-asserted, on-off, stops-dead, runs-live, assume-does, assert-does, sim-halt, sim-as}
+use Rattle.soundness.proofs.Merging.{BranchReading, BranchMeans, BranchesMean, no-branch, also, branches-step, branch-means, any, merge-does}
+use Rattle.soundness.proofs.Cases.{Branches, asserted-live}
+use Rattle.soundness.proofs.Walking.{LeafMeans, Leaves, no-leaf, leaf, some-of, leaf-step, leaves-step, walk-does}
 
 -- ---- what a leaf says of the value called
-module _ {n : ℕ} {ns : List ℕ} {ts : List Term} {v : Value} {x : Leaf} {g : Bool} (f : Fit n ts) (h : LeafIs ns ts v x g) where
-  target-env : x .term .kind ≡ procedureTerm → En ns (meaning ns ts (x .term .b)) ts (x .term .b)
+module _ {n : ℕ} {ns : List ℕ} {ts : List Term} {v : Value} {x : Leaf} {g : Bool} (f : Fit n ts) (h : LeafMeans ns ts v x g) where
+  target-env : x .term .kind ≡ procedureTerm → MeansBindings ns (meaning ns ts (x .term .b)) ts (x .term .b)
   target-env k =
       let y : Laid n ts (h .number) = laid-at n ts (h .number) (f .formed) (h .named .low) in
       let i : at ts (h .number) .kind ≡ procedureTerm = ap (λ t. t .kind) (h .is) ∙ k in
@@ -70,13 +70,13 @@ or-no false false g r k = refl
 -- a truth that with the rest comes to all
 record Ored (ns : List ℕ) (rest all : Bool) (ts : List Term) (x : ℕ) : Type 0 where
   has : Bool
-  is : Bo ns has ts x
+  is : MeansTruth ns has ts x
   same : (has || rest) ≡ all
 
 module _ {l n : ℕ} {N : ℕ → Type 0} (room : N tableFull) {ns : List ℕ} where
   -- the or of the targets' guards
-  or-targets : {ts us : List Term} {v : Value} {k : ℕ} {c : Bool} {ls : List Leaf} {gs : List Bool} → Step n ts us → Bo ns c us k → Leaves ns ts v ls gs
-      → Does l n (each orTargetOf k ls) us (Bo ns (c || (isAProcedure v && some-of gs))) N
+  or-targets : {ts us : List Term} {v : Value} {k : ℕ} {c : Bool} {ls : List Leaf} {gs : List Bool} → Step n ts us → MeansTruth ns c us k → Leaves ns ts v ls gs
+      → Does l n (each orTargetOf k ls) us (MeansTruth ns (c || (isAProcedure v && some-of gs))) N
   unfolding each orTargetOf
   or-targets {v = v} {c = c} z h no-leaf = rw (and-false (isAProcedure v), or-false c) (does-give _ (z .fit) h)
   or-targets {v = v} {c = c} z h (leaf {g = g} {gs = gs} x r) =
@@ -91,12 +91,12 @@ module _ {l n : ℕ} {N : ℕ → Type 0} (room : N tableFull) {ns : List ℕ} w
       Or = Ored ns (isAProcedure v && some-of gs) (c || (isAProcedure v && (g || some-of gs)))
 
 -- ---- branches, one more at the end
-brs-more : {ns : List ℕ} {ts : List Term} {o : Seen} {bs : List Branch} {xs : List Sem} {b : Branch} {x : Sem} → Brs ns ts o bs xs → BrIs ns ts o b x
-    → Brs ns ts o (bs ++ (b ∷ [])) (xs ++ (x ∷ []))
-brs-more no-br h = also h no-br
-brs-more (also k r) h = also k (brs-more r h)
+branches-more : {ns : List ℕ} {ts : List Term} {o : Seen} {bs : List Branch} {xs : List BranchReading} {b : Branch} {x : BranchReading} → BranchesMean ns ts o bs xs → BranchMeans ns ts o b x
+    → BranchesMean ns ts o (bs ++ (b ∷ [])) (xs ++ (x ∷ []))
+branches-more no-branch h = also h no-branch
+branches-more (also k r) h = also k (branches-more r h)
 
-any-more : (xs : List Sem) (x : Sem) → any (xs ++ (x ∷ [])) ≡ (any xs || x .g)
+any-more : (xs : List BranchReading) (x : BranchReading) → any (xs ++ (x ∷ [])) ≡ (any xs || x .g)
 any-more [] x = or-false (x .g)
 any-more (y ∷ ys) x = ap (λ u. y .g || u) (any-more ys x) ∙ go (y .g)
   where
@@ -104,10 +104,10 @@ any-more (y ∷ ys) x = ap (λ u. y .g || u) (any-more ys x) ∙ go (y .g)
     go true = refl
     go false = refl
 
-asm-live : (s t x : Bool) → (s && t) ≡ true → x ≡ true → (asm s t x && t) ≡ true
-asm-live true true x n e = rw e
-asm-live true false x n e = n
-asm-live false t x n e = n
+assumed-live : (s t x : Bool) → (s && t) ≡ true → x ≡ true → (assumed s t x && t) ≡ true
+assumed-live true true x n e = rw e
+assumed-live true false x n e = n
+assumed-live false t x n e = n
 
 -- "of anything else, error"
 call-error : (rn : ℕ → Running) (rule : List ℕ) (v u : Value) → pick (isAProcedure v) (callRun rn rule v u) errs ≡ callRun rn rule v u
@@ -124,56 +124,56 @@ call-procedure rn rule i e u = refl
 
 -- branches that with those to come cover all
 record Ranged (ns : List ℕ) (o : Seen) (rest all : Bool) (ts : List Term) (bs : List Branch) : Type 0 where
-  xs : List Sem
-  brs : Brs ns ts o bs xs
+  xs : List BranchReading
+  branches : BranchesMean ns ts o bs xs
   same : (any xs || rest) ≡ all
 
 module _ {l n : ℕ} {ns : List ℕ} {run : Run} {rn : ℕ → Running} (rule : List ℕ) (ih : Sims l n ns run rn) where
   -- a target, its guard assumed
-  apply-does : {top ts : List Term} {v u : Value} {arg : ℕ} {x : State} {s t s₀ t₀ : Bool} {y : Leaf} {g : Bool} → Step n top ts → StIs ns s t ts x → Is ns u ts arg
-      → (Const top → (s && t) ≡ true) → LeafIs ns ts v y g → y .term .kind ≡ procedureTerm
-      → Does l n (applyOf run rule arg x y) ts (Sim ns (on (asm s t g) t (rn (recordAt rule (y .term .a) .p) (binding u (meaning ns ts (y .term .b)))))) (Spends top s₀ t₀ (callRun rn rule v u))
+  apply-does : {top ts : List Term} {v u : Value} {arg : ℕ} {x : State} {s t s₀ t₀ : Bool} {y : Leaf} {g : Bool} → Step n top ts → StateMeans ns s t ts x → MeansValue ns u ts arg
+      → (Const top → (s && t) ≡ true) → LeafMeans ns ts v y g → y .term .kind ≡ procedureTerm
+      → Does l n (applyOf run rule arg x y) ts (Sim ns (on (assumed s t g) t (rn (recordAt rule (y .term .a) .p) (binding u (meaning ns ts (y .term .b)))))) (Spends top s₀ t₀ (callRun rn rule v u))
   unfolding applyOf underOf
   apply-does {top} {ts} {v} {u} {arg} {x} {s} {t} {s₀} {t₀} {y} {g} z h hu nc c k =
       does-then (assume-does full (z .fit) h (c .guard)) (λ us w p hw. does-with _ _ (
-      does-then (binding-does full (p .fit) (is-step p hu) (en-step p (target-env (z .fit) c k))) (λ vs e q he.
-      does-refused (q .fit) (deep (step-on (step-on z p) q)) (ih (recordAt rule (y .term .a) .p) e w vs (asm s t g) t (binding u (meaning ns ts (y .term .b))) (q .fit) he (st-step q hw)))))
+      does-then (binding-does full (p .fit) (value-step p hu) (bindings-step p (target-env (z .fit) c k))) (λ vs e q he.
+      does-refused (q .fit) (deep (step-on (step-on z p) q)) (ih (recordAt rule (y .term .a) .p) e w vs (assumed s t g) t (binding u (meaning ns ts (y .term .b))) (q .fit) he (state-step q hw)))))
     where
-      deep : {ws : List Term} → Step n top ws → (j : ℕ) → Spends ws (asm s t g) t (rn (recordAt rule (y .term .a) .p) (binding u (meaning ns ts (y .term .b)))) j
+      deep : {ws : List Term} → Step n top ws → (j : ℕ) → Spends ws (assumed s t g) t (rn (recordAt rule (y .term .a) .p) (binding u (meaning ns ts (y .term .b)))) j
           → Spends top s₀ t₀ (callRun rn rule v u) j
       deep d j i = record {
         runs-out = λ e o _. let gt = c .live (z .con o) in
-            ap (λ a. callRun rn rule a u) (target-is (z .fit) c k gt) ∙ (call-procedure rn rule _ _ u ∙ i .runs-out e (d .con o) (asm-live s t g (nc o) gt));
-        not-wide = λ e o _. i .not-wide e (d .con o) (asm-live s t g (nc o) (c .live (z .con o)));
+            ap (λ a. callRun rn rule a u) (target-is (z .fit) c k gt) ∙ (call-procedure rn rule _ _ u ∙ i .runs-out e (d .con o) (assumed-live s t g (nc o) gt));
+        not-wide = λ e o _. i .not-wide e (d .con o) (assumed-live s t g (nc o) (c .live (z .con o)));
       }
 
   -- each target in turn
-  targets-does : {top ts us : List Term} {v u : Value} {arg : ℕ} {x : State} {s t s₀ t₀ : Bool} {ls : List Leaf} {gs : List Bool} (bs : List Branch) (xs : List Sem)
-      → Step n top us → Step n ts us → StIs ns s t us x → Is ns u us arg → (Const top → (s && t) ≡ true) → Leaves ns ts v ls gs → Brs ns us (on s t (callRun rn rule v u)) bs xs
+  targets-does : {top ts us : List Term} {v u : Value} {arg : ℕ} {x : State} {s t s₀ t₀ : Bool} {ls : List Leaf} {gs : List Bool} (bs : List Branch) (xs : List BranchReading)
+      → Step n top us → Step n ts us → StateMeans ns s t us x → MeansValue ns u us arg → (Const top → (s && t) ≡ true) → Leaves ns ts v ls gs → BranchesMean ns us (on s t (callRun rn rule v u)) bs xs
       → Does l n (each (targetOf run rule arg x) bs ls) us (Branches ns (on s t (callRun rn rule v u)) (any xs || (isAProcedure v && some-of gs))) (Spends top s₀ t₀ (callRun rn rule v u))
   unfolding each targetOf
   targets-does {v = v} bs xs z y h hu nc no-leaf r =
-      does-give _ (z .fit) (record { xs = xs; brs = r; covers = sym (rw (and-false (isAProcedure v)) (or-false (any xs))) })
+      does-give _ (z .fit) (record { xs = xs; branches = r; covers = sym (rw (and-false (isAProcedure v)) (or-false (any xs))) })
   targets-does {top} {ts} {us} {v} {u} {arg} {x} {s} {t} {s₀} {t₀} bs xs z y h hu nc (leaf {l = a} {g = g} {gs = gs} b q) r =
       does-then {Q = Ran} (does-eq _ _
       (λ k. does-map _ (apply-does z h hu nc c k) (λ us o p ho. record {
         xs = _;
-        brs = brs-more (brs-step p r) (br-is (bo-step p (c .guard)) ho (same-run k));
+        branches = branches-more (branches-step p r) (branch-means (truth-step p (c .guard)) ho (same-run k));
         same = ap (λ a. a || (isAProcedure v && some-of gs)) (any-more xs _) ∙ or-yes (any xs) (isAProcedure v) g (some-of gs) (λ i. ap isAProcedure (target-is (z .fit) c k i) ∙ procedure-yes _ _);
       }))
-      (λ k. does-give _ (z .fit) (record { xs = xs; brs = r; same = or-no (any xs) (isAProcedure v) g (some-of gs) (target-none (z .fit) c k) })))
-      (λ us cs p hc. rw (sym (hc .same)) (targets-does cs (hc .xs) (step-on z p) (step-on y p) (st-step p h) (is-step p hu) nc q (hc .brs)))
+      (λ k. does-give _ (z .fit) (record { xs = xs; branches = r; same = or-no (any xs) (isAProcedure v) g (some-of gs) (target-none (z .fit) c k) })))
+      (λ us cs p hc. rw (sym (hc .same)) (targets-does cs (hc .xs) (step-on z p) (step-on y p) (state-step p h) (value-step p hu) nc q (hc .branches)))
     where
-      c : LeafIs ns us v a g
+      c : LeafMeans ns us v a g
       c = leaf-step y b
 
       Ran : List Term → List Branch → Type 0
       Ran = Ranged ns (on s t (callRun rn rule v u)) (isAProcedure v && some-of gs) (any xs || (isAProcedure v && (g || some-of gs)))
 
       same-run : a .term .kind ≡ procedureTerm → g ≡ true
-          → on (asm s t g) t (rn (recordAt rule (a .term .a) .p) (binding u (meaning ns us (a .term .b)))) ≡ on s t (callRun rn rule v u)
+          → on (assumed s t g) t (rn (recordAt rule (a .term .a) .p) (binding u (meaning ns us (a .term .b)))) ≡ on s t (callRun rn rule v u)
       same-run k i =
-          on-asm s t g (rn (recordAt rule (a .term .a) .p) (binding u (meaning ns us (a .term .b)))) ∙
+          on-assumed s t g (rn (recordAt rule (a .term .a) .p) (binding u (meaning ns us (a .term .b)))) ∙
           rw (i, target-is (z .fit) c k i, call-procedure rn rule (a .term .a) (meaning ns us (a .term .b)) u)
 
   -- the leaves, and the state in which one of them is a target
@@ -181,32 +181,32 @@ module _ {l n : ℕ} {ns : List ℕ} {run : Run} {rn : ℕ → Running} (rule : 
     gs : List Bool
     leaves : Leaves ns ts v (m .leaves) gs
     some : some-of gs ≡ true
-    state : StIs ns s (ast s t (isAProcedure v)) ts (m .state)
+    state : StateMeans ns s (asserted s t (isAProcedure v)) ts (m .state)
 
-  aim-does : {ts : List Term} {f : ℕ} {x : State} {s t : Bool} {v : Value} (u : Value) → Fit n ts → StIs ns s t ts x → Is ns v ts f
+  aim-does : {ts : List Term} {f : ℕ} {x : State} {s t : Bool} {v : Value} (u : Value) → Fit n ts → StateMeans ns s t ts x → MeansValue ns v ts f
       → Does l n (aimOf f x) ts (Aimed s t v) (Spends ts s t (callRun rn rule v u))
   unfolding aimOf
-  aim-does {ts} {f} {x} {s} {t} {v} u fit st hf =
+  aim-does {ts} {f} {x} {s} {t} {v} u fit state hf =
       let k = hf .named .low in let o = fit .short in
-      does-then (walk-does l n ns (Spends ts s t (callRun rn rule v u)) ts full over termLimit ts trueNumber f [] true v (omega arith) (stay fit) (λ _. omega arith) (yes-bo fit) (λ _. refl) hf) (λ us ls p hl.
+      does-then (walk-does l n ns (Spends ts s t (callRun rn rule v u)) ts full over termLimit ts trueNumber f [] true v (omega arith) (stay fit) (λ _. omega arith) (true-means fit) (λ _. refl) hf) (λ us ls p hl.
       let here : Leaves ns us v ls (hl .gs) = subst (λ e. Leaves ns us v e (hl .gs)) (sym (hl .is)) (hl .leaves) in
-      does-then (or-targets full (stay (p .fit)) (no-bo (p .fit)) here) (λ ws g q hg.
-      does-map _ (assert-does full (q .fit) (st-step (step-on p q) st) (guard (hl .some) hg)) (λ ys y r hy.
+      does-then (or-targets full (stay (p .fit)) (false-means (p .fit)) here) (λ ws g q hg.
+      does-map _ (assert-does full (q .fit) (state-step (step-on p q) state) (guard (hl .some) hg)) (λ ys y r hy.
       record { gs = hl .gs; leaves = leaves-step (step-on q r) here; some = hl .some; state = hy })))
     where
-      guard : {ws : List Term} {g : ℕ} {b : Bool} → b ≡ true → Bo ns (false || (isAProcedure v && b)) ws g → Bo ns (isAProcedure v) ws g
-      guard {ws} {g} e h = subst (λ a. Bo ns a ws g) (rw (e, and-true (isAProcedure v))) h
+      guard : {ws : List Term} {g : ℕ} {b : Bool} → b ≡ true → MeansTruth ns (false || (isAProcedure v && b)) ws g → MeansTruth ns (isAProcedure v) ws g
+      guard {ws} {g} e h = subst (λ a. MeansTruth ns a ws g) (rw (e, and-true (isAProcedure v))) h
 
-  pub call-sim : {ts : List Term} {f arg : ℕ} {x : State} {s t : Bool} {v u : Value} → Fit n ts → StIs ns s t ts x → (Const ts → (s && t) ≡ true) → Is ns v ts f → Is ns u ts arg
+  pub call-sim : {ts : List Term} {f arg : ℕ} {x : State} {s t : Bool} {v u : Value} → Fit n ts → StateMeans ns s t ts x → (Const ts → (s && t) ≡ true) → MeansValue ns v ts f → MeansValue ns u ts arg
       → Sound l n ns ts s t (callRun rn rule v u) (callOf run rule f arg x)
   unfolding callOf targetsOf
-  call-sim {ts} {f} {arg} {x} {s} {t} {v} {u} fit st nc hf hu =
-      does-then (aim-does u fit st hf) (λ us m p hm. does-read _ _ (does-if _
+  call-sim {ts} {f} {arg} {x} {s} {t} {v} {u} fit state nc hf hu =
+      does-then (aim-does u fit state hf) (λ us m p hm. does-read _ _ (does-if _
       (λ i. let d = stops-dead (p .fit) (hm .state) i in
-      does-give _ (p .fit) (sim-halt (p .fit) (hm .state) d (λ w. on-off s (ast s t (isAProcedure v)) (gives w) (callRun rn rule v u) d ∙ as-run)))
-      (λ i. does-then (targets-does [] [] p (stay (p .fit)) (hm .state) (is-step p hu) (λ c. runs-live (p .fit) (hm .state) i (p .con c)) (hm .leaves) no-br) (λ ws bs q hb.
+      does-give _ (p .fit) (sim-halt (p .fit) (hm .state) d (λ w. on-off s (asserted s t (isAProcedure v)) (gives w) (callRun rn rule v u) d ∙ as-run)))
+      (λ i. does-then (targets-does [] [] p (stay (p .fit)) (hm .state) (value-step p hu) (λ c. runs-live (p .fit) (hm .state) i (p .con c)) (hm .leaves) no-branch) (λ ws bs q hb.
       does-weaken (q .fit) (λ xs r w hr. sim-as as-run hr)
-      (merge-does full (callRun rn rule v u) (q .fit) (st-step q (hm .state)) (hb .brs) (λ e. hb .covers ∙ rw (hm .some, ast-live s t (isAProcedure v) e)))))))
+      (merge-does full (callRun rn rule v u) (q .fit) (state-step q (hm .state)) (hb .branches) (λ e. hb .covers ∙ rw (hm .some, asserted-live s t (isAProcedure v) e)))))))
     where
-      as-run : on s (ast s t (isAProcedure v)) (callRun rn rule v u) ≡ on s t (callRun rn rule v u)
-      as-run = on-ast s t (isAProcedure v) (callRun rn rule v u) ∙ ap (on s t) (call-error rn rule v u)
+      as-run : on s (asserted s t (isAProcedure v)) (callRun rn rule v u) ≡ on s t (callRun rn rule v u)
+      as-run = on-asserted s t (isAProcedure v) (callRun rn rule v u) ∙ ap (on s t) (call-error rn rule v u)

@@ -18,41 +18,41 @@ use Rattle.semantics.specs.States.{outOf}
 use Rattle.semantics.specs.Evaluation.{Run, placeOf, datumOf, procedureOf, abortOf, errorOf, wordsOf, operationOf, testOf, operatorOf, secondOf, underOf, letOf, Fork, forkOf, branchesOf, bothOf, ifOf}
 use Rattle.semantics.specs.Run.{Value, truth, word, procedure, binding, Ended, gives, aborts, errs, spends, Running, after, isFalse, isAWord, isAProcedure, wordIn, operationValue, wordsRun, operatorRun, datumValue}
 use Rattle.typing.proofs.Formed.{never}
-use Rattle.typing.proofs.Steps.{Fit}
+use Rattle.typing.proofs.Does.{Fit}
 use Rattle.typing.proofs.Factory.{Operands, operands-grown}
 use Rattle.soundness.proofs.Means.{operatorMeaning}
-use Rattle.soundness.proofs.Steps.{Const, const-back, Step, stay, step-on, Does, does-give, does-then, does-map, does-weaken, does-read, does-with, does-if, does-eq, does-below, does-refused}
-use Rattle.soundness.proofs.Held.{Bo, Is, En, bo-step, is-step, en-step, bo-is, no-bo, yes-bo, bo-false, bo-true, unknown}
+use Rattle.soundness.proofs.Constants.{Const, const-back, Step, stay, step-on, Does, does-give, does-then, does-map, does-weaken, does-read, does-with, does-if, does-eq, does-below, does-refused}
+use Rattle.soundness.proofs.Held.{MeansTruth, MeansValue, MeansBindings, truth-step, value-step, bindings-step, truth-is-value, false-means, true-means, known-is-false, known-is-true, unknown}
 use Rattle.soundness.proofs.Factory.{not-does, and-does, truth-does, is-word-does, is-procedure-does, word-does, procedure-does, binding-does}
 use Rattle.soundness.proofs.Operate.{one-value, operator-words, Second, second-step, operator-does}
-use Rattle.soundness.proofs.Sim.{lookOf, Seen, ends, on, asm, ast, StIs, st-step, Sim, Spends, full, Sound, Sims, on-asm, on-ast, afterSeen, on-after, on-off, on-live, ends-same, place-is, stops-dead, runs-live, assume-does, assert-does, sim-out, sim-halt, sim-step, sim-as}
-use Rattle.soundness.proofs.Merging.{Sem, Brs, no-br, also, br-is, any, merge-does}
+use Rattle.soundness.proofs.Sim.{lookOf, Seen, ends, on, assumed, asserted, StateMeans, state-step, Sim, Spends, full, Sound, Sims, on-assumed, on-asserted, afterSeen, on-after, on-off, on-live, ends-same, place-is, stops-dead, runs-live, assume-does, assert-does, sim-out, sim-halt, sim-step, sim-as}
+use Rattle.soundness.proofs.Merging.{BranchReading, BranchesMean, no-branch, also, branch-means, any, merge-does}
 
 -- how a record is entered
 pub record Entry (n : ℕ) (ns : List ℕ) (ts : List Term) (e : ℕ) (x : State) (s t : Bool) (E : Value) : Type 0 where
   pub fit : Fit n ts
-  pub env : En ns E ts e
-  pub st : StIs ns s t ts x
+  pub env : MeansBindings ns E ts e
+  pub state : StateMeans ns s t ts x
   pub open-const : Const ts → (s && t) ≡ true
 
 -- a refusal further on is one from here
 pub spends-back : {n : ℕ} {ts us : List Term} {s t : Bool} {o : Ended} {k : ℕ} → Step n ts us → Spends us s t o k → Spends ts s t o k
 spends-back p h = record { runs-out = λ i c l. h .runs-out i (p .con c) l; not-wide = λ i c l. h .not-wide i (p .con c) l }
 
-asm-false : (s t : Bool) → (asm s t false && t) ≡ false
-asm-false true true = refl
-asm-false true false = refl
-asm-false false t = refl
+assumed-false : (s t : Bool) → (assumed s t false && t) ≡ false
+assumed-false true true = refl
+assumed-false true false = refl
+assumed-false false t = refl
 
-ast-false : (s t : Bool) → (s && ast s t false) ≡ false
-ast-false true true = refl
-ast-false true false = refl
-ast-false false t = refl
+asserted-false : (s t : Bool) → (s && asserted s t false) ≡ false
+asserted-false true true = refl
+asserted-false true false = refl
+asserted-false false t = refl
 
-pub ast-live : (s t x : Bool) → (s && ast s t x) ≡ true → x ≡ true
-ast-live true true x h = h
-ast-live true false x h = never h
-ast-live false t x h = never h
+pub asserted-live : (s t x : Bool) → (s && asserted s t x) ≡ true → x ≡ true
+asserted-live true true x h = h
+asserted-live true false x h = never h
+asserted-live false t x h = never h
 
 -- ---- operators 1 to 12
 module _ (op : ℕ) (v w : Value) where
@@ -100,26 +100,26 @@ operated-is op v w u l q = rw (lt-ltb op notCode l, sym (words-same op v w u q))
     go true e = ap gives (operator-words op v w l e ∙ value-same)
     go false e = refl
 
-module _ {l n : ℕ} {ns : List ℕ} {ts : List Term} {x : State} {s t : Bool} (f : Fit n ts) (st : StIs ns s t ts x) where
-  words-does : {N : ℕ → Type 0} {a b : ℕ} {v w : Value} → N tableFull → (op : ℕ) → Is ns v ts a → ((operandsOf op ≡ 1 → ⊥) → Is ns w ts b)
-      → Does l n (wordsOf op a b) ts (Bo ns (wordsRun op v w)) N
+module _ {l n : ℕ} {ns : List ℕ} {ts : List Term} {x : State} {s t : Bool} (f : Fit n ts) (state : StateMeans ns s t ts x) where
+  words-does : {N : ℕ → Type 0} {a b : ℕ} {v w : Value} → N tableFull → (op : ℕ) → MeansValue ns v ts a → ((operandsOf op ≡ 1 → ⊥) → MeansValue ns w ts b)
+      → Does l n (wordsOf op a b) ts (MeansTruth ns (wordsRun op v w)) N
   unfolding wordsOf
   words-does {v = v} {w} room op h k =
       does-then (is-word-does room f h) (λ us g p q. does-with _ _ (does-eq _ _ (λ e. does-give _ (p .fit) (rw (words-one-is op v w e) q)) λ e.
-      does-then (is-word-does room (p .fit) (is-step p (k e))) (λ ws c u r. rw (words-two-is op v w e) (and-does room (u .fit) (bo-step u q) r))))
+      does-then (is-word-does room (p .fit) (value-step p (k e))) (λ ws c u r. rw (words-two-is op v w e) (and-does room (u .fit) (truth-step u q) r))))
 
-  operation-sim : {op a b : ℕ} {v w : Value} → Operands ts op a b → Is ns v ts a → Second ns w ts b → ((operandsOf op ≡ 1 → ⊥) → Is ns w ts b)
+  operation-sim : {op a b : ℕ} {v w : Value} → Operands ts op a b → MeansValue ns v ts a → Second ns w ts b → ((operandsOf op ≡ 1 → ⊥) → MeansValue ns w ts b)
       → Sound l n ns ts s t (operated op v w) (operationOf op a b x)
   unfolding operationOf
   operation-sim {op} {a} {b} {v} {w} o hv hw two =
       does-then (words-does full op hv two) (λ us g p hg.
-      does-then (assert-does full (p .fit) (st-step p st) hg) (λ xs y q hy. let z = step-on p q in
+      does-then (assert-does full (p .fit) (state-step p state) hg) (λ xs y q hy. let z = step-on p q in
       does-read _ _ (does-if _
       (λ i. let d = stops-dead (q .fit) hy i in
-      does-give _ (q .fit) (sim-halt (q .fit) hy d (λ u. on-off s _ (gives u) (gives (operatorMeaning op v w)) d ∙ on-ast s t (wordsRun op v w) (gives (operatorMeaning op v w)))))
-      (λ i. does-map _ (operator-does full (q .fit) (operands-grown (z .grown) o) (is-step z hv) (second-step z hw) (λ d. is-step z (two d))
-      (λ c. ast-live s t (wordsRun op v w) (runs-live (q .fit) hy i c)))
-      (λ ys c r hc. sim-out (st-step r hy) hc (λ k. runs-live (q .fit) hy i (const-back (r .grown) k)) (on-ast s t (wordsRun op v w) (gives (operatorMeaning op v w))))))))
+      does-give _ (q .fit) (sim-halt (q .fit) hy d (λ u. on-off s _ (gives u) (gives (operatorMeaning op v w)) d ∙ on-asserted s t (wordsRun op v w) (gives (operatorMeaning op v w)))))
+      (λ i. does-map _ (operator-does full (q .fit) (operands-grown (z .grown) o) (value-step z hv) (second-step z hw) (λ d. value-step z (two d))
+      (λ c. asserted-live s t (wordsRun op v w) (runs-live (q .fit) hy i c)))
+      (λ ys c r hc. sim-out (state-step r hy) hc (λ k. runs-live (q .fit) hy i (const-back (r .grown) k)) (on-asserted s t (wordsRun op v w) (gives (operatorMeaning op v w))))))))
 
 -- ---- operators 13 to 15
 unfoldable pub testB : ℕ → Value → Bool
@@ -151,8 +151,8 @@ not-not : (b : Bool) → not (not b) ≡ b
 not-not true = refl
 not-not false = refl
 
-test-does : {l n : ℕ} {N : ℕ → Type 0} {ns : List ℕ} {ts : List Term} {a : ℕ} {v : Value} → N tableFull → Fit n ts → (op : ℕ) → Is ns v ts a
-    → Does l n (testOf op a) ts (Bo ns (testB op v)) N
+test-does : {l n : ℕ} {N : ℕ → Type 0} {ns : List ℕ} {ts : List Term} {a : ℕ} {v : Value} → N tableFull → Fit n ts → (op : ℕ) → MeansValue ns v ts a
+    → Does l n (testOf op a) ts (MeansTruth ns (testB op v)) N
 unfolding testOf
 test-does {v = v} room f op h =
     does-eq _ _ (λ e. does-then (truth-does room f h) (λ us g p q. rw (test-not op v e, sym (not-not (isFalse v))) (not-does room (p .fit) q))) λ d.
@@ -160,8 +160,8 @@ test-does {v = v} room f op h =
 
 -- branches that all read as one outcome, and whether a guard holds
 pub record Branches (ns : List ℕ) (o : Seen) (c : Bool) (ts : List Term) (bs : List Branch) : Type 0 where
-  pub xs : List Sem
-  pub brs : Brs ns ts o bs xs
+  pub xs : List BranchReading
+  pub branches : BranchesMean ns ts o bs xs
   pub covers : any xs ≡ c
 
 if-run : (b : Bool) (f g : Running) (E : Value) → pick (not b) (f E) (g E) ≡ (if b then g else f) E
@@ -174,9 +174,9 @@ unfolding after
 spends-after K = refl
 
 -- ---- expressions that have no parts
-truth-number : {ns : List ℕ} {n : ℕ} {ts : List Term} → Fit n ts → (op : ℕ) → op ≤ wordDatum → (op ≡ wordDatum → ⊥) → Is ns (truth (eqb op trueDatum)) ts op
-truth-number f zero k e = bo-is (no-bo f)
-truth-number f (suc zero) k e = bo-is (yes-bo f)
+truth-number : {ns : List ℕ} {n : ℕ} {ts : List Term} → Fit n ts → (op : ℕ) → op ≤ wordDatum → (op ≡ wordDatum → ⊥) → MeansValue ns (truth (eqb op trueDatum)) ts op
+truth-number f zero k e = truth-is-value (false-means f)
+truth-number f (suc zero) k e = truth-is-value (true-means f)
 truth-number f (suc (suc m)) k e = absurd (e (omega arith))
 
 module _ (op w : ℕ) where
@@ -192,16 +192,16 @@ module _ (op w : ℕ) where
 abbrev second : ℕ → Value → Value
 second op v = pick (eqb (operandsOf op) 1) (truth false) v
 
-module _ {n : ℕ} {ns : List ℕ} {ts : List Term} {e : ℕ} {E : Value} (f : Fit n ts) (h : En ns E ts e) where
+module _ {n : ℕ} {ns : List ℕ} {ts : List Term} {e : ℕ} {E : Value} (f : Fit n ts) (h : MeansBindings ns E ts e) where
   second-is : (op q : ℕ) → Second ns (second op (lookOf q E)) ts (secondOf op q e ts)
   unfolding secondOf with if_equals_then_else_
   second-is op q = go (eqb (operandsOf op) 1)
     where
       go : (b : Bool) → Second ns (pick b (truth false) (lookOf q E)) ts (pick b 0 (placeOf q e ts))
-      go true = record { low = no-bo {ns = ns} f .sort .low; is = no-bo {ns = ns} f .is }
-      go false = let i : Is ns (lookOf q E) ts (placeOf q e ts) = place-is q e f h in record { low = i .named .low; is = i .is }
+      go true = record { low = false-means {ns = ns} f .sort .low; is = false-means {ns = ns} f .is }
+      go false = let i : MeansValue ns (lookOf q E) ts (placeOf q e ts) = place-is q e f h in record { low = i .named .low; is = i .is }
 
-  second-two : (op q : ℕ) → (operandsOf op ≡ 1 → ⊥) → Is ns (second op (lookOf q E)) ts (secondOf op q e ts)
+  second-two : (op q : ℕ) → (operandsOf op ≡ 1 → ⊥) → MeansValue ns (second op (lookOf q E)) ts (secondOf op q e ts)
   unfolding secondOf with if_equals_then_else_
   second-two op q d = rw (ne-eqb _ _ d) (place-is q e f h)
 
@@ -220,36 +220,36 @@ module _ {n : ℕ} {ns : List ℕ} {ts : List Term} {e : ℕ} {E : Value} (f : F
       }
 
 -- a value with no change of state
-value-sim : {n : ℕ} {ns : List ℕ} {ts us : List Term} {e k : ℕ} {x : State} {s t : Bool} {E v : Value} → Entry n ns ts e x s t E → Step n ts us → Is ns v us k
+value-sim : {n : ℕ} {ns : List ℕ} {ts us : List Term} {e k : ℕ} {x : State} {s t : Bool} {E v : Value} → Entry n ns ts e x s t E → Step n ts us → MeansValue ns v us k
     → Sim ns (on s t (gives v)) us (outOf x k)
-value-sim en p h = sim-out (st-step p (en .st)) h (λ c. en .open-const (const-back (p .grown) c)) refl
+value-sim entry p h = sim-out (state-step p (entry .state)) h (λ c. entry .open-const (const-back (p .grown) c)) refl
 
-module _ {l n : ℕ} {ns : List ℕ} {ts : List Term} {e : ℕ} {x : State} {s t : Bool} {E : Value} (en : Entry n ns ts e x s t E) where
-  value-does : {m : Make ℕ} {v : Value} → Does l n m ts (Is ns v) (Spends ts s t (gives v)) → Sound l n ns ts s t (gives v) (m ▹ λ k. outOf x k)
-  value-does d = does-map _ d (λ us a g q. value-sim en g q)
+module _ {l n : ℕ} {ns : List ℕ} {ts : List Term} {e : ℕ} {x : State} {s t : Bool} {E : Value} (entry : Entry n ns ts e x s t E) where
+  value-does : {m : Make ℕ} {v : Value} → Does l n m ts (MeansValue ns v) (Spends ts s t (gives v)) → Sound l n ns ts s t (gives v) (m ▹ λ k. outOf x k)
+  value-does d = does-map _ d (λ us a g q. value-sim entry g q)
 
   pub datum-sim : (op w : ℕ) → op ≤ wordDatum → Sound l n ns ts s t (gives (datumValue op w)) (datumOf op w x)
   unfolding datumOf
   datum-sim op w k =
-      does-eq _ _ (λ i. does-with _ _ (rw (datum-word op w i) (value-does (word-does full w (en .fit)))))
-      (λ i. rw (datum-truth op w i) (does-give _ (en .fit) (value-sim en (stay (en .fit)) (truth-number (en .fit) op k i))))
+      does-eq _ _ (λ i. does-with _ _ (rw (datum-word op w i) (value-does (word-does full w (entry .fit)))))
+      (λ i. rw (datum-truth op w i) (does-give _ (entry .fit) (value-sim entry (stay (entry .fit)) (truth-number (entry .fit) op k i))))
 
   pub variable-sim : (p : ℕ) → Sound l n ns ts s t (gives (lookOf p E)) (reads (placeOf p e) λ v. give (outOf x v))
-  variable-sim p = does-read _ _ (does-give _ (en .fit) (value-sim en (stay (en .fit)) (place-is p e (en .fit) (en .env))))
+  variable-sim p = does-read _ _ (does-give _ (entry .fit) (value-sim entry (stay (entry .fit)) (place-is p e (entry .fit) (entry .env))))
 
   pub procedure-sim : (i b : ℕ) → i < recordLimit → b < n → Sound l n ns ts s t (gives (procedure i E)) (procedureOf i e b x)
   unfolding procedureOf
-  procedure-sim i b k o = value-does (procedure-does full (en .fit) k (en .env) o)
+  procedure-sim i b k o = value-does (procedure-does full (entry .fit) k (entry .env) o)
 
   pub abort-sim : Sound l n ns ts s t aborts (abortOf x)
   unfolding abortOf
   abort-sim =
-      does-map _ (assume-does full (en .fit) (en .st) (no-bo (en .fit))) (λ us y g h. sim-halt (g .fit) h (asm-false s t) (λ v. on-asm s t false (gives v)))
+      does-map _ (assume-does full (entry .fit) (entry .state) (false-means (entry .fit))) (λ us y g h. sim-halt (g .fit) h (assumed-false s t) (λ v. on-assumed s t false (gives v)))
 
   pub error-sim : Sound l n ns ts s t errs (errorOf x)
   unfolding errorOf
   error-sim =
-      does-map _ (assert-does full (en .fit) (en .st) (no-bo (en .fit))) (λ us y g h. sim-halt (g .fit) h (ast-false s t) (λ v. on-ast s t false (gives v)))
+      does-map _ (assert-does full (entry .fit) (entry .state) (false-means (entry .fit))) (λ us y g h. sim-halt (g .fit) h (asserted-false s t) (λ v. on-asserted s t false (gives v)))
 
   pub operator-sim : (op p q : ℕ) → (op ≡ 0 → ⊥)
       → Sound l n ns ts s t (operatorRun op (lookOf p E) (lookOf q E)) (reads (placeOf p e) λ a. reads (secondOf op q e) λ b. operatorOf op a b x)
@@ -257,11 +257,11 @@ module _ {l n : ℕ} {ns : List ℕ} {ts : List Term} {e : ℕ} {x : State} {s t
   operator-sim op p q z =
       does-read _ _ (does-read _ _ (does-below _ _
       (λ k. subst (λ o. Sound l n ns ts s t o (operationOf op (placeOf p e ts) (secondOf op q e ts) x))
-      (operated-is op (lookOf p E) (second op (lookOf q E)) (lookOf q E) k (second-same (en .fit) (en .env) op q))
-      (operation-sim (en .fit) (en .st) (operands (en .fit) (en .env) op p q z k) (place-is p e (en .fit) (en .env)) (second-is (en .fit) (en .env) op q)
-      (second-two (en .fit) (en .env) op q)))
+      (operated-is op (lookOf p E) (second op (lookOf q E)) (lookOf q E) k (second-same (entry .fit) (entry .env) op q))
+      (operation-sim (entry .fit) (entry .state) (operands (entry .fit) (entry .env) op p q z k) (place-is p e (entry .fit) (entry .env)) (second-is (entry .fit) (entry .env) op q)
+      (second-two (entry .fit) (entry .env) op q)))
       (λ k. subst (λ o. Sound l n ns ts s t o (testOf op (placeOf p e ts) ▹ λ v. outOf x v)) (test-run op (lookOf p E) (lookOf q E) k)
-      (value-does (does-weaken (en .fit) (λ us a g q. bo-is q) (test-does full (en .fit) op (place-is p e (en .fit) (en .env))))))))
+      (value-does (does-weaken (entry .fit) (λ us a g q. truth-is-value q) (test-does full (entry .fit) op (place-is p e (entry .fit) (entry .env))))))))
 
   -- ---- expressions that have parts
   module _ {run : Run} {rn : ℕ → Running} (ih : Sims l n ns run rn) where
@@ -276,12 +276,12 @@ module _ {l n : ℕ} {ns : List ℕ} {ts : List Term} {e : ℕ} {x : State} {s t
     pub let-sim : (p q : ℕ) → Sound l n ns ts s t (after (rn p E) (λ v. rn q (binding v E))) (letOf run p q e x)
     unfolding letOf underOf
     let-sim p q =
-        does-then (does-refused (en .fit) first (ih p e x ts s t E (en .fit) (en .env) (en .st))) (λ us r z h.
+        does-then (does-refused (entry .fit) first (ih p e x ts s t E (entry .fit) (entry .env) (entry .state))) (λ us r z h.
         does-if (r .halted)
         (λ i. does-give _ (z .fit) (sim-as (sym (h .sees) ∙ (on-off (h .s) (h .t) (gives (h .v)) (K (h .v)) (h .dead i) ∙ let-next p q h)) h))
-        (λ i. does-then (binding-does full (z .fit) (h .value) (en-step z (en .env))) (λ ws m y hm.
+        (λ i. does-then (binding-does full (z .fit) (h .value) (bindings-step z (entry .env))) (λ ws m y hm.
         does-weaken (y .fit) (λ xs o u ho. sim-as (let-next p q h) ho)
-        (does-refused (y .fit) (further h i z y) (ih q m (r .state) ws (h .s) (h .t) (binding (h .v) E) (y .fit) hm (st-step y (h .st)))))))
+        (does-refused (y .fit) (further h i z y) (ih q m (r .state) ws (h .s) (h .t) (binding (h .v) E) (y .fit) hm (state-step y (h .state)))))))
       where
         K : Value → Ended
         K v = rn q (binding v E)
@@ -301,30 +301,30 @@ module _ {l n : ℕ} {ns : List ℕ} {ts : List Term} {e : ℕ} {x : State} {s t
 
     -- If: both branches, where the test is not known.
     record Forked (b : Bool) (us : List Term) (k : Fork) : Type 0 where
-      guard : Bo ns (not b) us (k .guard)
-      yes : StIs ns (asm s t b) t us (k .yes)
-      no : StIs ns (asm s t (not b)) t us (k .no)
+      guard : MeansTruth ns (not b) us (k .guard)
+      yes : StateMeans ns (assumed s t b) t us (k .yes)
+      no : StateMeans ns (assumed s t (not b)) t us (k .no)
 
-    fork-does : {N : ℕ → Type 0} {us : List Term} {g : ℕ} {b : Bool} → N tableFull → Step n ts us → Bo ns b us g → Does l n (forkOf g x) us (Forked b) N
+    fork-does : {N : ℕ → Type 0} {us : List Term} {g : ℕ} {b : Bool} → N tableFull → Step n ts us → MeansTruth ns b us g → Does l n (forkOf g x) us (Forked b) N
     unfolding forkOf
     fork-does room z hg =
         does-then (not-does room (z .fit) hg) (λ vs h y hh.
-        does-then (assume-does room (y .fit) (st-step (step-on z y) (en .st)) (bo-step y hg)) (λ ws b p hb.
-        does-map _ (assume-does room (p .fit) (st-step (step-on (step-on z y) p) (en .st)) (bo-step p hh)) (λ xs c w hc.
-        record { guard = bo-step w (bo-step p hh); yes = st-step w hb; no = hc })))
+        does-then (assume-does room (y .fit) (state-step (step-on z y) (entry .state)) (truth-step y hg)) (λ ws b p hb.
+        does-map _ (assume-does room (p .fit) (state-step (step-on (step-on z y) p) (entry .state)) (truth-step p hh)) (λ xs c w hc.
+        record { guard = truth-step w (truth-step p hh); yes = state-step w hb; no = hc })))
 
-    both-sim : {us : List Term} {g : ℕ} {b : Bool} (q r : ℕ) → Step n ts us → Bo ns b us g → (Const us → ⊥)
+    both-sim : {us : List Term} {g : ℕ} {b : Bool} (q r : ℕ) → Step n ts us → MeansTruth ns b us g → (Const us → ⊥)
         → Does l n (bothOf run g q r e x) us (Sim ns (on s t (pick b (rn q E) (rn r E)))) (Spends ts s t (pick b (rn q E) (rn r E)))
     unfolding bothOf branchesOf
     both-sim {us} {g} {b} q r z hg mixed =
         does-then (fork-does full z hg) (λ vs k y hk. let zy = step-on z y in
-        does-then {Q = Ran} (does-then (does-refused (y .fit) none-const (ih q e (k .yes) vs (asm s t b) t E (y .fit) (en-step zy (en .env)) (hk .yes))) (λ ws o u ho. let zu = step-on zy u in
-        does-map _ (does-refused (u .fit) none-const (ih r e (k .no) ws (asm s t (not b)) t E (u .fit) (en-step zu (en .env)) (st-step u (hk .no)))) (λ xs w p hw.
+        does-then {Q = Ran} (does-then (does-refused (y .fit) none-const (ih q e (k .yes) vs (assumed s t b) t E (y .fit) (bindings-step zy (entry .env)) (hk .yes))) (λ ws o u ho. let zu = step-on zy u in
+        does-map _ (does-refused (u .fit) none-const (ih r e (k .no) ws (assumed s t (not b)) t E (u .fit) (bindings-step zu (entry .env)) (state-step u (hk .no)))) (λ xs w p hw.
         record {
           xs = _ ∷ (_ ∷ []);
-          brs = also (br-is (bo-step (step-on (step-on y u) p) hg) (sim-step p ho) (left b)) (also (br-is (bo-step (step-on u p) (hk .guard)) hw (right b)) no-br);
+          branches = also (branch-means (truth-step (step-on (step-on y u) p) hg) (sim-step p ho) (left b)) (also (branch-means (truth-step (step-on u p) (hk .guard)) hw (right b)) no-branch);
           covers = cover b;
-        }))) (λ xs bs p hb. merge-does full (pick b (rn q E) (rn r E)) (p .fit) (st-step (step-on zy p) (en .st)) (hb .brs) (λ _. hb .covers)))
+        }))) (λ xs bs p hb. merge-does full (pick b (rn q E) (rn r E)) (p .fit) (state-step (step-on zy p) (entry .state)) (hb .branches) (λ _. hb .covers)))
       where
         Ran : List Term → List Branch → Type 0
         Ran = Branches ns (on s t (pick b (rn q E) (rn r E))) true
@@ -336,22 +336,22 @@ module _ {l n : ℕ} {ns : List ℕ} {ts : List Term} {e : ℕ} {x : State} {s t
         cover true = refl
         cover false = refl
 
-        left : (b : Bool) → b ≡ true → on (asm s t b) t (rn q E) ≡ on s t (pick b (rn q E) (rn r E))
-        left true i = on-asm s t true (rn q E)
+        left : (b : Bool) → b ≡ true → on (assumed s t b) t (rn q E) ≡ on s t (pick b (rn q E) (rn r E))
+        left true i = on-assumed s t true (rn q E)
         left false i = never i
 
-        right : (b : Bool) → not b ≡ true → on (asm s t (not b)) t (rn r E) ≡ on s t (pick b (rn q E) (rn r E))
+        right : (b : Bool) → not b ≡ true → on (assumed s t (not b)) t (rn r E) ≡ on s t (pick b (rn q E) (rn r E))
         right true i = never i
-        right false i = on-asm s t true (rn r E)
+        right false i = on-assumed s t true (rn r E)
 
     -- a part, with nothing done
     part : {us : List Term} → Step n ts us → (i : ℕ) → Does l n (run i e x) us (Sim ns (on s t (rn i E))) (Spends ts s t (rn i E))
-    part {us} z i = does-refused (z .fit) (λ k m. spends-back z m) (ih i e x us s t E (z .fit) (en-step z (en .env)) (st-step z (en .st)))
+    part {us} z i = does-refused (z .fit) (λ k m. spends-back z m) (ih i e x us s t E (z .fit) (bindings-step z (entry .env)) (state-step z (entry .state)))
 
     pub if-sim : (p q r : ℕ) → Sound l n ns ts s t ((if isFalse (lookOf p E) then rn r else rn q) E) (ifOf run p q r e x)
     unfolding ifOf
     if-sim p q r =
         subst (λ o. Sound l n ns ts s t o (ifOf run p q r e x)) (if-run (isFalse (lookOf p E)) (rn q) (rn r) E)
-        (does-read _ _ (does-then (truth-does full (en .fit) (place-is p e (en .fit) (en .env))) (λ us g z hg.
-        does-read _ _ (does-eq _ _ (λ k. rw (bo-true (z .fit) hg k) (part z q)) λ d. does-eq _ _ (λ k. rw (bo-false (z .fit) hg k) (part z r)) λ k.
+        (does-read _ _ (does-then (truth-does full (entry .fit) (place-is p e (entry .fit) (entry .env))) (λ us g z hg.
+        does-read _ _ (does-eq _ _ (λ k. rw (known-is-true (z .fit) hg k) (part z q)) λ d. does-eq _ _ (λ k. rw (known-is-false (z .fit) hg k) (part z r)) λ k.
         both-sim q r z hg (unknown (z .fit) hg k d)))))

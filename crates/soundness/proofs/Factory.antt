@@ -5,7 +5,7 @@ use mathlib.Core.List.{List}
 use Prim.Native.Nat.{ℕ, _<_}
 use lib.Dec.{eqb}
 use borrow.Author.Tests.{eqb-true, eqb-false, ne-eqb, lt-ltb}
-use Rattle.words.proofs.Laws.{join-halves}
+use Rattle.words.proofs.Words.{join-halves}
 use Rattle.notation.specs.Notation.{pick, if_then_else_, if_equals_then_else_, if_below_then_else_}
 use Rattle.operators.specs.Operators.{operandsOf, givesTruthOf, rowOf}
 use Rattle.semantics.specs.declared.Term.{Term}
@@ -16,12 +16,12 @@ use Rattle.semantics.specs.Factory.{notOf, andOf, orOf, impliesOf, choiceOf, tr
 use Rattle.semantics.specs.Run.{Value, truth, word, procedure, binding, isFalse, isAWord, isAProcedure}
 use Rattle.typing.proofs.Grown.{Sort, Value as Named, value-of, sort-at, truth-named, choice-named}
 use Rattle.typing.proofs.Formed.{never, There}
-use Rattle.typing.proofs.Steps.{Lies, Fit}
+use Rattle.typing.proofs.Does.{Lies, Fit}
 use Rattle.typing.proofs.Factory.{there-sort, laid-word, laid-binding, laid-procedure, Operands, procedure-sort, binding-sort}
 use Rattle.soundness.proofs.Means.{isTrue, isProper, operatorMeaning, termMeaning, meaning}
-use Rattle.soundness.proofs.Steps.{isConstant, Const, const-at, Step, Does, does-give, does-then, does-weaken, does-read, does-eq, does-make}
+use Rattle.soundness.proofs.Constants.{isConstant, Const, const-at, Step, Does, does-give, does-then, does-weaken, does-read, does-eq, does-make}
 use Rattle.soundness.proofs.BySort.{Kind, constant-truth, constant-word, free-truth, free-word, truth-operator, word-operator, a-choice, a-procedure, a-binding, no-kind, kind-of, means-word, means-choice, means-procedure, means-binding, there-means, truth-means, word-means, procedure-means, choice-kind}
-use Rattle.soundness.proofs.Held.{Bo, Is, En, bo-step, is-step, en-step, is-proper, no-bo, yes-bo, bo-false, bo-true, unknown, named-some, named-other}
+use Rattle.soundness.proofs.Held.{MeansTruth, MeansValue, MeansBindings, truth-step, value-step, bindings-step, is-proper, false-means, true-means, known-is-false, known-is-true, unknown, named-some, named-other}
 
 -- ---- terms that are laid out
 module _ {n : ℕ} {ts : List Term} where
@@ -169,8 +169,8 @@ or-self true = refl
 or-self false = refl
 
 -- one number means one truth
-same-bo : {ns : List ℕ} {ts : List Term} {x y : ℕ} {b c : Bool} → Bo ns b ts x → Bo ns c ts y → x ≡ y → c ≡ b
-same-bo {ns} {ts} h k e = ap isTrue (sym (k .is) ∙ (ap (meaning ns ts) (sym e) ∙ h .is))
+same-truth : {ns : List ℕ} {ts : List Term} {x y : ℕ} {b c : Bool} → MeansTruth ns b ts x → MeansTruth ns c ts y → x ≡ y → c ≡ b
+same-truth {ns} {ts} h k e = ap isTrue (sym (k .is) ∙ (ap (meaning ns ts) (sym e) ∙ h .is))
 
 -- a value by its sort
 module _ {P : Type 0} {ts : List Term} {x : ℕ} (h : Named ts x) where
@@ -189,7 +189,7 @@ module _ {P : Type 0} {ts : List Term} {x : ℕ} (h : Named ts x) where
   pub by-sort : (Sort truthTerm ts x → P) → (Sort wordTerm ts x → P) → (Sort choiceTerm ts x → P) → (Sort procedureTerm ts x → P) → P
   by-sort a b c d = cases (sortOf (at ts x)) refl (kind-of (at ts x)) a b c d
 
-module _ {ns : List ℕ} {n : ℕ} {ts : List Term} {x : ℕ} {v : Value} (f : Fit n ts) (h : Is ns v ts x) where
+module _ {ns : List ℕ} {n : ℕ} {ts : List Term} {x : ℕ} {v : Value} (f : Fit n ts) (h : MeansValue ns v ts x) where
   -- what is no choice, and no truth, does not fail a test
   not-false : (sortOf (at ts x) ≡ choiceTerm → ⊥) → (sortOf (at ts x) ≡ truthTerm → ⊥) → not (isFalse v) ≡ true
   unfolding isFalse
@@ -197,7 +197,7 @@ module _ {ns : List ℕ} {n : ℕ} {ts : List Term} {x : ℕ} {v : Value} (f : F
       by-sort (h .named) (λ s. absurd (b (s .is))) (λ s. rw (sym (h .is) ∙ word-means ns f s .is)) (λ s. absurd (a (s .is)))
       (λ s. rw (sym (h .is) ∙ procedure-means ns f s))
 
-  is-truth : (s : sortOf (at ts x) ≡ truthTerm) → Bo ns (not (isFalse v)) ts x
+  is-truth : (s : sortOf (at ts x) ≡ truthTerm) → MeansTruth ns (not (isFalse v)) ts x
   unfolding isFalse
   is-truth s =
       let t : Sort truthTerm ts x = sort-at ts x truthTerm refl s in
@@ -232,87 +232,87 @@ module _ {l n : ℕ} {N : ℕ → Type 0} (full : N tableFull) {ns : List ℕ} w
   -- a formula, where it is not folded
   formula-does : {ts : List Term} {op a b : ℕ} {c : Bool} → givesTruthOf op ≡ true → Fit n ts → Lies n ts (term operatorTerm op a b 0) → (Const ts → ⊥)
       → ((us : List Term) → Step n ts us → termMeaning ns (meaning ns us) (term operatorTerm op a b 0) ≡ truth c)
-      → Does l n (makeOf (term operatorTerm op a b 0)) ts (Bo ns c) N
+      → Does l n (makeOf (term operatorTerm op a b 0)) ts (MeansTruth ns c) N
   formula-does {op = op} {a} {b} e f h k m =
       does-weaken f (λ us x g j. record { sort = there-sort truthTerm (formula op a b e) j; is = there-means ns (g .fit) j ∙ m us g })
       (does-make full f h (λ c. absurd (k c)))
 
-  pub not-does : {ts : List Term} {x : ℕ} {b : Bool} → Fit n ts → Bo ns b ts x → Does l n (notOf x) ts (Bo ns (not b)) N
+  pub not-does : {ts : List Term} {x : ℕ} {b : Bool} → Fit n ts → MeansTruth ns b ts x → Does l n (notOf x) ts (MeansTruth ns (not b)) N
   unfolding notOf
   not-does {x = x} f h =
-      does-read _ _ (does-eq _ _ (λ e. does-give _ f (rw (bo-false f h e) (yes-bo f))) λ d. does-eq _ _ (λ e. does-give _ f (rw (bo-true f h e) (no-bo f))) λ e.
-      formula-does gives-not f (laid-not (h .sort)) (unknown f h d e) (λ us g. mean-not ns (meaning ns us) x (bo-step g h .is)))
+      does-read _ _ (does-eq _ _ (λ e. does-give _ f (rw (known-is-false f h e) (true-means f))) λ d. does-eq _ _ (λ e. does-give _ f (rw (known-is-true f h e) (false-means f))) λ e.
+      formula-does gives-not f (laid-not (h .sort)) (unknown f h d e) (λ us g. mean-not ns (meaning ns us) x (truth-step g h .is)))
 
-  pub and-does : {ts : List Term} {x y : ℕ} {b c : Bool} → Fit n ts → Bo ns b ts x → Bo ns c ts y → Does l n (andOf x y) ts (Bo ns (b && c)) N
+  pub and-does : {ts : List Term} {x y : ℕ} {b c : Bool} → Fit n ts → MeansTruth ns b ts x → MeansTruth ns c ts y → Does l n (andOf x y) ts (MeansTruth ns (b && c)) N
   unfolding andOf
   and-does {x = x} {y} {b} {c} f h k =
-      does-read _ _ (does-eq _ _ (λ e. does-give _ f (rw (bo-false f h e) (no-bo f))) λ d. does-eq _ _ (λ e. does-give _ f (rw (bo-true f h e) k)) λ e.
-      does-read _ _ (does-eq _ _ (λ i. does-give _ f (rw (bo-false f k i, and-false b) (no-bo f))) λ i. does-eq _ _ (λ j. does-give _ f (rw (bo-true f k j, and-true b) h)) λ j.
-      does-eq _ _ (λ s. does-give _ f (rw (same-bo h k s, and-self b) h)) λ s.
-      formula-does gives-and f (laid-and (h .sort) (k .sort)) (unknown f h d e) (λ us g. mean-and ns (meaning ns us) x y (bo-step g h .is) (bo-step g k .is))))
+      does-read _ _ (does-eq _ _ (λ e. does-give _ f (rw (known-is-false f h e) (false-means f))) λ d. does-eq _ _ (λ e. does-give _ f (rw (known-is-true f h e) k)) λ e.
+      does-read _ _ (does-eq _ _ (λ i. does-give _ f (rw (known-is-false f k i, and-false b) (false-means f))) λ i. does-eq _ _ (λ j. does-give _ f (rw (known-is-true f k j, and-true b) h)) λ j.
+      does-eq _ _ (λ s. does-give _ f (rw (same-truth h k s, and-self b) h)) λ s.
+      formula-does gives-and f (laid-and (h .sort) (k .sort)) (unknown f h d e) (λ us g. mean-and ns (meaning ns us) x y (truth-step g h .is) (truth-step g k .is))))
 
-  pub or-does : {ts : List Term} {x y : ℕ} {b c : Bool} → Fit n ts → Bo ns b ts x → Bo ns c ts y → Does l n (orOf x y) ts (Bo ns (b || c)) N
+  pub or-does : {ts : List Term} {x y : ℕ} {b c : Bool} → Fit n ts → MeansTruth ns b ts x → MeansTruth ns c ts y → Does l n (orOf x y) ts (MeansTruth ns (b || c)) N
   unfolding orOf
   or-does {x = x} {y} {b} {c} f h k =
-      does-read _ _ (does-eq _ _ (λ e. does-give _ f (rw (bo-true f h e) (yes-bo f))) λ d. does-eq _ _ (λ e. does-give _ f (rw (bo-false f h e) k)) λ e.
-      does-read _ _ (does-eq _ _ (λ i. does-give _ f (rw (bo-true f k i, or-true b) (yes-bo f))) λ i. does-eq _ _ (λ j. does-give _ f (rw (bo-false f k j, or-false b) h)) λ j.
-      does-eq _ _ (λ s. does-give _ f (rw (same-bo h k s, or-self b) h)) λ s.
-      formula-does gives-or f (laid-or (h .sort) (k .sort)) (unknown f h e d) (λ us g. mean-or ns (meaning ns us) x y (bo-step g h .is) (bo-step g k .is))))
+      does-read _ _ (does-eq _ _ (λ e. does-give _ f (rw (known-is-true f h e) (true-means f))) λ d. does-eq _ _ (λ e. does-give _ f (rw (known-is-false f h e) k)) λ e.
+      does-read _ _ (does-eq _ _ (λ i. does-give _ f (rw (known-is-true f k i, or-true b) (true-means f))) λ i. does-eq _ _ (λ j. does-give _ f (rw (known-is-false f k j, or-false b) h)) λ j.
+      does-eq _ _ (λ s. does-give _ f (rw (same-truth h k s, or-self b) h)) λ s.
+      formula-does gives-or f (laid-or (h .sort) (k .sort)) (unknown f h e d) (λ us g. mean-or ns (meaning ns us) x y (truth-step g h .is) (truth-step g k .is))))
 
-  pub implies-does : {ts : List Term} {x y : ℕ} {b c : Bool} → Fit n ts → Bo ns b ts x → Bo ns c ts y → Does l n (impliesOf x y) ts (Bo ns (not b || c)) N
+  pub implies-does : {ts : List Term} {x y : ℕ} {b c : Bool} → Fit n ts → MeansTruth ns b ts x → MeansTruth ns c ts y → Does l n (impliesOf x y) ts (MeansTruth ns (not b || c)) N
   unfolding impliesOf
-  implies-does f h k = does-then (not-does f h) (λ us a g j. or-does (g .fit) j (bo-step g k))
+  implies-does f h k = does-then (not-does f h) (λ us a g j. or-does (g .fit) j (truth-step g k))
 
-  pub choice-does : {ts : List Term} {g x y : ℕ} {b : Bool} {v w : Value} → Fit n ts → Bo ns b ts g → Is ns v ts x → Is ns w ts y
-      → Does l n (choiceOf g x y) ts (Is ns (pick b v w)) N
+  pub choice-does : {ts : List Term} {g x y : ℕ} {b : Bool} {v w : Value} → Fit n ts → MeansTruth ns b ts g → MeansValue ns v ts x → MeansValue ns w ts y
+      → Does l n (choiceOf g x y) ts (MeansValue ns (pick b v w)) N
   unfolding choiceOf
   choice-does {g = g} {x} {y} f h k i =
-      does-read _ _ (does-eq _ _ (λ e. does-give _ f (rw (bo-true f h e) k)) λ d. does-eq _ _ (λ e. does-give _ f (rw (bo-false f h e) i)) λ e.
+      does-read _ _ (does-eq _ _ (λ e. does-give _ f (rw (known-is-true f h e) k)) λ d. does-eq _ _ (λ e. does-give _ f (rw (known-is-false f h e) i)) λ e.
       does-weaken f (λ us a s j. record {
         named = value-of choiceTerm refl refl (there-sort choiceTerm (choice-sort g x y) j);
-        is = there-means ns (s .fit) j ∙ mean-choice ns (meaning ns us) g x y (bo-step s h .is) (is-step s k .is) (is-step s i .is);
+        is = there-means ns (s .fit) j ∙ mean-choice ns (meaning ns us) g x y (truth-step s h .is) (value-step s k .is) (value-step s i .is);
       }) (does-make full f (laid-choice (h .sort) (k .named) (i .named)) (λ c. unknown f h e d c)))
 
-  pub truth-does : {ts : List Term} {x : ℕ} {v : Value} → Fit n ts → Is ns v ts x → Does l n (truthOf x) ts (Bo ns (not (isFalse v))) N
+  pub truth-does : {ts : List Term} {x : ℕ} {v : Value} → Fit n ts → MeansValue ns v ts x → Does l n (truthOf x) ts (MeansTruth ns (not (isFalse v))) N
   unfolding truthOf
   truth-does {ts} {x} f h =
       does-read _ _ (does-eq _ _ (λ e. let s = sort-at ts x choiceTerm refl e in formula-does gives-truth f (laid-truth s) (no-choice s)
-      (λ us g. mean-truth ns (meaning ns us) x (is-step g h .is) (is-proper f h))) λ d.
-      does-eq _ _ (λ e. does-give _ f (is-truth f h e)) λ e. does-give _ f (rw (not-false f h d e) (yes-bo f)))
+      (λ us g. mean-truth ns (meaning ns us) x (value-step g h .is) (is-proper f h))) λ d.
+      does-eq _ _ (λ e. does-give _ f (is-truth f h e)) λ e. does-give _ f (rw (not-false f h d e) (true-means f)))
 
-  pub is-word-does : {ts : List Term} {x : ℕ} {v : Value} → Fit n ts → Is ns v ts x → Does l n (isWordOf x) ts (Bo ns (isAWord v)) N
+  pub is-word-does : {ts : List Term} {x : ℕ} {v : Value} → Fit n ts → MeansValue ns v ts x → Does l n (isWordOf x) ts (MeansTruth ns (isAWord v)) N
   unfolding isWordOf
   is-word-does {ts} {x} f h =
       does-read _ _ (does-eq _ _ (λ e. let s = sort-at ts x choiceTerm refl e in formula-does gives-is-word f (laid-is-word s) (no-choice s)
-      (λ us g. mean-is-word ns (meaning ns us) x (is-step g h .is))) λ d.
-      does-eq _ _ (λ e. does-give _ f (rw (is-word f h e) (yes-bo f))) λ e. does-give _ f (rw (no-word f h d e) (no-bo f)))
+      (λ us g. mean-is-word ns (meaning ns us) x (value-step g h .is))) λ d.
+      does-eq _ _ (λ e. does-give _ f (rw (is-word f h e) (true-means f))) λ e. does-give _ f (rw (no-word f h d e) (false-means f)))
 
-  pub is-procedure-does : {ts : List Term} {x : ℕ} {v : Value} → Fit n ts → Is ns v ts x → Does l n (isProcedureOf x) ts (Bo ns (isAProcedure v)) N
+  pub is-procedure-does : {ts : List Term} {x : ℕ} {v : Value} → Fit n ts → MeansValue ns v ts x → Does l n (isProcedureOf x) ts (MeansTruth ns (isAProcedure v)) N
   unfolding isProcedureOf
   is-procedure-does {ts} {x} f h =
       does-read _ _ (does-eq _ _ (λ e. let s = sort-at ts x choiceTerm refl e in formula-does gives-is-procedure f (laid-is-procedure s) (no-choice s)
-      (λ us g. mean-is-procedure ns (meaning ns us) x (is-step g h .is))) λ d.
-      does-eq _ _ (λ e. does-give _ f (rw (is-procedure f h e) (yes-bo f))) λ e. does-give _ f (rw (no-procedure f h d e) (no-bo f)))
+      (λ us g. mean-is-procedure ns (meaning ns us) x (value-step g h .is))) λ d.
+      does-eq _ _ (λ e. does-give _ f (rw (is-procedure f h e) (true-means f))) λ e. does-give _ f (rw (no-procedure f h d e) (false-means f)))
 
-  pub word-does : {ts : List Term} (w : ℕ) → Fit n ts → Does l n (makeOf (wordTermOf w)) ts (Is ns (word w)) N
+  pub word-does : {ts : List Term} (w : ℕ) → Fit n ts → Does l n (makeOf (wordTermOf w)) ts (MeansValue ns (word w)) N
   word-does w f =
       does-weaken f (λ us a s j. record {
         named = value-of wordTerm refl refl (there-sort wordTerm (word-sort w) j);
         is = there-means ns (s .fit) j ∙ (means-word ns (meaning ns us) (wordTermOf w) refl ∙ ap word (join-halves w));
       }) (does-make full f (laid-word w) (λ c. word-constant w))
 
-  pub procedure-does : {ts : List Term} {i e b : ℕ} {v : Value} → Fit n ts → i < recordLimit → En ns v ts e → b < n
-      → Does l n (makeOf (term procedureTerm 0 i e b)) ts (Is ns (procedure i v)) N
+  pub procedure-does : {ts : List Term} {i e b : ℕ} {v : Value} → Fit n ts → i < recordLimit → MeansBindings ns v ts e → b < n
+      → Does l n (makeOf (term procedureTerm 0 i e b)) ts (MeansValue ns (procedure i v)) N
   procedure-does {i = i} {e} {b} f k h o =
       does-weaken f (λ us a s j. record {
         named = value-of procedureTerm refl refl (there-sort procedureTerm (procedure-sort i e b) j);
-        is = there-means ns (s .fit) j ∙ (means-procedure ns (meaning ns us) (term procedureTerm 0 i e b) refl ∙ ap (procedure i) (en-step s h .is));
+        is = there-means ns (s .fit) j ∙ (means-procedure ns (meaning ns us) (term procedureTerm 0 i e b) refl ∙ ap (procedure i) (bindings-step s h .is));
       }) (does-make full f (laid-procedure k (h .sort) o) (λ c. procedure-constant i e b))
 
-  pub binding-does : {ts : List Term} {x e : ℕ} {v w : Value} → Fit n ts → Is ns v ts x → En ns w ts e
-      → Does l n (makeOf (term bindingTerm 0 x e 0)) ts (En ns (binding v w)) N
+  pub binding-does : {ts : List Term} {x e : ℕ} {v w : Value} → Fit n ts → MeansValue ns v ts x → MeansBindings ns w ts e
+      → Does l n (makeOf (term bindingTerm 0 x e 0)) ts (MeansBindings ns (binding v w)) N
   binding-does {x = x} {e} f h k =
       does-weaken f (λ us a s j. record {
         sort = there-sort bindingTerm (binding-sort x e) j;
-        is = there-means ns (s .fit) j ∙ (means-binding ns (meaning ns us) (term bindingTerm 0 x e 0) refl ∙ rw (is-step s h .is, en-step s k .is));
+        is = there-means ns (s .fit) j ∙ (means-binding ns (meaning ns us) (term bindingTerm 0 x e 0) refl ∙ rw (value-step s h .is, bindings-step s k .is));
       }) (does-make full f (laid-binding (h .named) (k .sort)) (λ c. binding-constant x e))

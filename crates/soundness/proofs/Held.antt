@@ -15,10 +15,10 @@ use Rattle.semantics.specs.Terms.{term, at, sortOf, knownOf, namesValue, laidOu
 use Rattle.semantics.specs.Run.{Value, truth}
 use Rattle.typing.proofs.Grown.{at-lower, at-newest, Sort, Value as Named, sort-grown, value-grown}
 use Rattle.typing.proofs.Formed.{never, choice-names, formed-newest}
-use Rattle.typing.proofs.Steps.{Fit}
+use Rattle.typing.proofs.Does.{Fit}
 use Rattle.typing.proofs.Factory.{false-truth, true-truth, truth-value}
 use Rattle.soundness.proofs.Means.{isTrue, isProper, termMeaning, meaning, meaning-lower, meaning-newest, meaning-grown}
-use Rattle.soundness.proofs.Steps.{Const, const-at, Step}
+use Rattle.soundness.proofs.Constants.{Const, const-at, Step}
 use Rattle.soundness.proofs.BySort.{Kind, constant-truth, constant-word, free-truth, free-word, truth-operator, word-operator, a-choice, a-procedure, a-binding, no-kind, kind-of, means-truth, means-word, means-free-truth, means-free-word, means-operator, means-choice, means-procedure, operator-truth, operator-word, IsTruth, IsWord, constant-kind, means-at, there-means, truth-means}
 
 -- ---- a value is no binding
@@ -77,45 +77,45 @@ proper-at ns n (t ∷ ts) x h k = formed-newest n t ts h λ p u v. go p (eqb x (
         ap isProper (meaning-lower ns t ts x (λ z. omega arith)) ∙ r x (named-lower k i)
 
 -- ---- what a number is held to mean
-pub record Bo (ns : List ℕ) (b : Bool) (ts : List Term) (x : ℕ) : Type 0 where
+pub record MeansTruth (ns : List ℕ) (b : Bool) (ts : List Term) (x : ℕ) : Type 0 where
   pub sort : Sort truthTerm ts x
   pub is : meaning ns ts x ≡ truth b
 
-pub record Is (ns : List ℕ) (v : Value) (ts : List Term) (x : ℕ) : Type 0 where
+pub record MeansValue (ns : List ℕ) (v : Value) (ts : List Term) (x : ℕ) : Type 0 where
   pub named : Named ts x
   pub is : meaning ns ts x ≡ v
 
-pub record En (ns : List ℕ) (v : Value) (ts : List Term) (x : ℕ) : Type 0 where
+pub record MeansBindings (ns : List ℕ) (v : Value) (ts : List Term) (x : ℕ) : Type 0 where
   pub sort : Sort bindingTerm ts x
   pub is : meaning ns ts x ≡ v
 
 module _ {ns : List ℕ} {n : ℕ} {ts us : List Term} (g : Step n ts us) where
-  pub bo-step : {b : Bool} {x : ℕ} → Bo ns b ts x → Bo ns b us x
-  bo-step {x = x} h = record { sort = sort-grown (g .grown) (h .sort); is = meaning-grown ns x (g .grown) (h .sort .low) ∙ h .is }
+  pub truth-step : {b : Bool} {x : ℕ} → MeansTruth ns b ts x → MeansTruth ns b us x
+  truth-step {x = x} h = record { sort = sort-grown (g .grown) (h .sort); is = meaning-grown ns x (g .grown) (h .sort .low) ∙ h .is }
 
-  pub is-step : {v : Value} {x : ℕ} → Is ns v ts x → Is ns v us x
-  is-step {x = x} h = record { named = value-grown (g .grown) (h .named); is = meaning-grown ns x (g .grown) (h .named .low) ∙ h .is }
+  pub value-step : {v : Value} {x : ℕ} → MeansValue ns v ts x → MeansValue ns v us x
+  value-step {x = x} h = record { named = value-grown (g .grown) (h .named); is = meaning-grown ns x (g .grown) (h .named .low) ∙ h .is }
 
-  pub en-step : {v : Value} {x : ℕ} → En ns v ts x → En ns v us x
-  en-step {x = x} h = record { sort = sort-grown (g .grown) (h .sort); is = meaning-grown ns x (g .grown) (h .sort .low) ∙ h .is }
+  pub bindings-step : {v : Value} {x : ℕ} → MeansBindings ns v ts x → MeansBindings ns v us x
+  bindings-step {x = x} h = record { sort = sort-grown (g .grown) (h .sort); is = meaning-grown ns x (g .grown) (h .sort .low) ∙ h .is }
 
-pub bo-is : {ns : List ℕ} {ts : List Term} {b : Bool} {x : ℕ} → Bo ns b ts x → Is ns (truth b) ts x
-bo-is h = record { named = truth-value (h .sort); is = h .is }
+pub truth-is-value : {ns : List ℕ} {ts : List Term} {b : Bool} {x : ℕ} → MeansTruth ns b ts x → MeansValue ns (truth b) ts x
+truth-is-value h = record { named = truth-value (h .sort); is = h .is }
 
-pub is-proper : {ns : List ℕ} {n : ℕ} {ts : List Term} {v : Value} {x : ℕ} → Fit n ts → Is ns v ts x → isProper v ≡ true
+pub is-proper : {ns : List ℕ} {n : ℕ} {ts : List Term} {v : Value} {x : ℕ} → Fit n ts → MeansValue ns v ts x → isProper v ≡ true
 is-proper {ns} {n} {ts} {v} {x} f h = ap isProper (sym (h .is)) ∙ proper-at ns n ts x (f .formed) (h .named)
 
 -- ---- the two constants
 module _ {ns : List ℕ} {n : ℕ} {ts : List Term} (f : Fit n ts) where
-  pub no-bo : Bo ns false ts falseNumber
-  no-bo = record { sort = false-truth f; is = there-means ns f (f .no) ∙ means-truth ns (meaning ns ts) (term truthTerm 0 0 0 0) refl }
+  pub false-means : MeansTruth ns false ts falseNumber
+  false-means = record { sort = false-truth f; is = there-means ns f (f .no) ∙ means-truth ns (meaning ns ts) (term truthTerm 0 0 0 0) refl }
 
-  pub yes-bo : Bo ns true ts trueNumber
-  yes-bo = record { sort = true-truth f; is = there-means ns f (f .yes) ∙ means-truth ns (meaning ns ts) (term truthTerm 0 1 0 0) refl }
+  pub true-means : MeansTruth ns true ts trueNumber
+  true-means = record { sort = true-truth f; is = there-means ns f (f .yes) ∙ means-truth ns (meaning ns ts) (term truthTerm 0 1 0 0) refl }
 
   -- any truth means one or the other
-  pub some-bo : {x : ℕ} → Sort truthTerm ts x → Bo ns (isTrue (meaning ns ts x)) ts x
-  some-bo h = record { sort = h; is = truth-means ns f h .is }
+  pub some-truth : {x : ℕ} → Sort truthTerm ts x → MeansTruth ns (isTrue (meaning ns ts x)) ts x
+  some-truth h = record { sort = h; is = truth-means ns f h .is }
 
 -- ---- what is known of a truth
 by-case : {P : Type 0} (b : Bool) (x y : ℕ) {m : ℕ} → pick b x y ≡ m → (b ≡ true → x ≡ m → P) → (b ≡ false → y ≡ m → P) → P
@@ -143,12 +143,12 @@ known-some {P} t k a b = go (eqb (t .a) 0) refl
     go true e = absurd (a (rw (k, e)))
     go false e = absurd (b (rw (k, e)))
 
-module _ {ns : List ℕ} {n : ℕ} {ts : List Term} {x : ℕ} {b : Bool} (f : Fit n ts) (h : Bo ns b ts x) where
-  pub bo-false : knownOf (at ts x) ≡ 0 → b ≡ false
-  bo-false e = ap isTrue (sym (h .is) ∙ (means-at ns f x (h .sort .low) ∙ known-false ns (meaning ns ts) (at ts x) e))
+module _ {ns : List ℕ} {n : ℕ} {ts : List Term} {x : ℕ} {b : Bool} (f : Fit n ts) (h : MeansTruth ns b ts x) where
+  pub known-is-false : knownOf (at ts x) ≡ 0 → b ≡ false
+  known-is-false e = ap isTrue (sym (h .is) ∙ (means-at ns f x (h .sort .low) ∙ known-false ns (meaning ns ts) (at ts x) e))
 
-  pub bo-true : knownOf (at ts x) ≡ 1 → b ≡ true
-  bo-true e = ap isTrue (sym (h .is) ∙ (means-at ns f x (h .sort .low) ∙ known-true ns (meaning ns ts) (at ts x) e))
+  pub known-is-true : knownOf (at ts x) ≡ 1 → b ≡ true
+  known-is-true e = ap isTrue (sym (h .is) ∙ (means-at ns f x (h .sort .low) ∙ known-true ns (meaning ns ts) (at ts x) e))
 
   -- a truth that is not known is no constant
   pub unknown : {P : Type 0} → (knownOf (at ts x) ≡ 0 → ⊥) → (knownOf (at ts x) ≡ 1 → ⊥) → Const ts → P

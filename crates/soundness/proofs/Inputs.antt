@@ -17,7 +17,7 @@ use Rattle.semantics.specs.Steps.{Setting, Got, gave, refused, Make, deeper, ne
 use Rattle.semantics.specs.Opening.{inputTerm, inputsOf, chainOf, openingOf}
 use Rattle.semantics.specs.Reading.{numbersTaken}
 use Rattle.typing.proofs.Formed.{both}
-use Rattle.soundness.proofs.Steps.{isConstant, Const, const-none, const-more}
+use Rattle.soundness.proofs.Constants.{isConstant, Const, const-none, const-more}
 use Rattle.soundness.proofs.Link.{Small}
 
 -- ---- what holds of each term stays so

@@ -1,5 +1,5 @@
 pub mod Means
-pub mod Steps
+pub mod Constants
 pub mod BySort
 pub mod Held
 pub mod Factory

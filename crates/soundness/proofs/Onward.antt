@@ -20,12 +20,12 @@ use Rattle.semantics.specs.Evaluation.{evalOf}
 use Rattle.semantics.specs.Run.{Value, truth, word, Ended, gives, aborts, errs, spends, after, runOf, inputValue, inputsBound}
 use Rattle.semantics.specs.History.{ranOn}
 use Rattle.typing.proofs.Formed.{never}
-use Rattle.typing.proofs.Steps.{Fit}
+use Rattle.typing.proofs.Does.{Fit}
 use Rattle.typing.proofs.Evaluation.{Ruled}
 use Rattle.depth.proofs.Depth.{depth-enough}
 use Rattle.soundness.proofs.Means.{isProper}
-use Rattle.soundness.proofs.Steps.{Const}
-use Rattle.soundness.proofs.Held.{En}
+use Rattle.soundness.proofs.Constants.{Const}
+use Rattle.soundness.proofs.Held.{MeansBindings}
 use Rattle.soundness.proofs.Sim.{ends, on, afterSeen, on-after, on-off, on-live, ends-same, totalOf, Sim, sim-halt, sim-as}
 use Rattle.soundness.proofs.Readout.{Done, evaluation-at, evaluation-spent}
 use Rattle.soundness.proofs.Scope.{bound, Good, GoodValue, GoodEnd, Agree, run-agrees}
@@ -100,16 +100,16 @@ module _ {ns : List ℕ} (xs : List Input) (l : length xs ≡ inputCount) (m : i
   unfolding ranOn
   halted-on d f q =
       let k = sim .dead q in
-      sim-halt f (sim .st) k (λ w. on-off (sim .s) (sim .t) (gives w) (gives (sim .v)) k ∙
+      sim-halt f (sim .state) k (λ w. on-off (sim .s) (sim .t) (gives w) (gives (sim .v)) k ∙
       (sim .sees ∙ ap ends (sym (stopped (sim .s) (sim .t) (sim .v) o k (sim .sees) (λ _. runOf rule d 0 (inputsBound xs ns))))))
 
-  module _ (b e : ℕ) (f : Fit (b + 1) ts) (env : En ns (inputsBound xs ns) ts e) (size : ℕ) where
+  module _ (b e : ℕ) (f : Fit (b + 1) ts) (env : MeansBindings ns (inputsBound xs ns) ts e) (size : ℕ) where
     -- a rule that is evaluated: its result reads as the run goes on at the allowance,
     pub ran-at : (d : ℕ) {us : List Term} {w : Result} {u : ℕ} → evalOf rule b d 0 e (r .state) (settingOf size) ts ≡ gave us w u
         → Done (b + 1) ts (Sim ns (ends (ranOn (inputsBound xs ns) o rule d))) us w
     unfolding ranOn
     ran-at d q =
-        let x = evaluation-at ruled b size 0 e f env (sim .st) d q in
+        let x = evaluation-at ruled b size 0 e f env (sim .state) d q in
         record {
           step = x .step;
           holds = sim-as (ap (on (sim .s) (sim .t)) (rule-runs rule h xs ns l m d) ∙ goes-on (sim .s) (sim .t) (sim .v) o (runOf rule d 0 (inputsBound xs ns)) (sim .sees)) (x .holds);
@@ -125,5 +125,5 @@ module _ {ns : List ℕ} (xs : List Input) (l : length xs ≡ inputCount) (m : i
     unfolding ranOn
     ran-out d q c z =
         let k = sim .live q c in
-        let i : runOf rule d 0 (inputsBound xs ns) ≡ spends = sym (rule-runs rule h xs ns l m d) ∙ evaluation-spent ruled b size 0 e f env (sim .st) d z c k in
+        let i : runOf rule d 0 (inputsBound xs ns) ≡ spends = sym (rule-runs rule h xs ns l m d) ∙ evaluation-spent ruled b size 0 e f env (sim .state) d z c k in
         ends-same (sym (goes-on (sim .s) (sim .t) (sim .v) o (runOf rule d 0 (inputsBound xs ns)) (sim .sees)) ∙ (on-live (sim .s) (sim .t) (runOf rule d 0 (inputsBound xs ns)) k ∙ ap ends i))

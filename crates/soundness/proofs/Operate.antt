@@ -17,12 +17,12 @@ use Rattle.semantics.specs.Factory.{constantOf, operatorTermOf}
 use Rattle.semantics.specs.Run.{Value, truth, word, isAWord, wordIn, operationValue, wordsRun}
 use Rattle.typing.proofs.Grown.{grown-length}
 use Rattle.typing.proofs.Formed.{never}
-use Rattle.typing.proofs.Steps.{Fit}
+use Rattle.typing.proofs.Does.{Fit}
 use Rattle.typing.proofs.Factory.{Operands}
 use Rattle.soundness.proofs.Means.{operatorMeaning, meaning, meaning-grown}
-use Rattle.soundness.proofs.Steps.{isConstant, Const, const-at, Step, Does, does-give, does-weaken, does-read, does-with, does-if, does-eq, does-make}
+use Rattle.soundness.proofs.Constants.{isConstant, Const, const-at, Step, Does, does-give, does-weaken, does-read, does-with, does-if, does-eq, does-make}
 use Rattle.soundness.proofs.BySort.{Kind, constant-truth, constant-word, free-truth, free-word, truth-operator, word-operator, a-choice, a-procedure, a-binding, no-kind, kind-of, means-word, means-at, there-means, truth-means, procedure-means}
-use Rattle.soundness.proofs.Held.{Is, bo-is, is-step, no-bo, yes-bo}
+use Rattle.soundness.proofs.Held.{MeansValue, truth-is-value, value-step, false-means, true-means}
 use Rattle.soundness.proofs.Factory.{laid-operator, mean-operator, operator-named, no-choice, by-sort, word-does}
 
 -- ---- what the operators give
@@ -123,7 +123,7 @@ module _ (t : Term) where
   constant-word-kind c k e no-kind = absurd (omega arith)
 
 -- what a number means is a word, and all are constants
-word-constant-kind : {ns : List ℕ} {n : ℕ} {ts : List Term} {x : ℕ} {v : Value} → Fit n ts → Is ns v ts x → Const ts → isAWord v ≡ true → at ts x .kind ≡ wordTerm
+word-constant-kind : {ns : List ℕ} {n : ℕ} {ts : List Term} {x : ℕ} {v : Value} → Fit n ts → MeansValue ns v ts x → Const ts → isAWord v ≡ true → at ts x .kind ≡ wordTerm
 unfolding isAWord
 word-constant-kind {ns} {n} {ts} {x} {v} f h c w =
     by-sort (h .named) (λ s. never (sym (ap isAWord (sym (h .is) ∙ truth-means ns f s .is)) ∙ w))
@@ -143,24 +143,24 @@ pub second-step : {ns : List ℕ} {n : ℕ} {ts us : List Term} {v : Value} {x :
 second-step {ns} {x = x} g h = let l = grown-length (g .grown) in let k = h .low in record { low = omega arith; is = meaning-grown ns x (g .grown) (h .low) ∙ h .is }
 
 -- a truth that is kept as a word
-number-is : {ns : List ℕ} {n : ℕ} {ts : List Term} → Fit n ts → (w : ℕ) → Is ns (truth (eqb w 1)) ts (truthNumber w)
+number-is : {ns : List ℕ} {n : ℕ} {ts : List Term} → Fit n ts → (w : ℕ) → MeansValue ns (truth (eqb w 1)) ts (truthNumber w)
 unfolding truthNumber if_equals_then_else_
 number-is {ns} {ts = ts} f w = go (eqb w 1)
   where
-    go : (b : Bool) → Is ns (truth b) ts (pick b trueNumber falseNumber)
-    go true = bo-is (yes-bo f)
-    go false = bo-is (no-bo f)
+    go : (b : Bool) → MeansValue ns (truth b) ts (pick b trueNumber falseNumber)
+    go true = truth-is-value (true-means f)
+    go false = truth-is-value (false-means f)
 
 module _ {l n : ℕ} {N : ℕ → Type 0} (full : N tableFull) {ns : List ℕ} {ts : List Term} (f : Fit n ts) where
-  constant-does : (op x y : ℕ) → Does l n (constantOf op (operateOf op x y)) ts (Is ns (operationValue op x y)) N
+  constant-does : (op x y : ℕ) → Does l n (constantOf op (operateOf op x y)) ts (MeansValue ns (operationValue op x y)) N
   unfolding constantOf
   constant-does op x y =
       does-with _ _ (does-if (givesTruthOf op)
       (λ e. does-with _ _ (does-give _ f (rw (operation-truth op x y e) (number-is f (operateOf op x y)))))
       (λ e. does-with _ _ (rw (operation-word op x y e) (word-does full (operateOf op x y) f))))
 
-  pub operator-does : {op a b : ℕ} {v w : Value} → Operands ts op a b → Is ns v ts a → Second ns w ts b → ((operandsOf op ≡ 1 → ⊥) → Is ns w ts b)
-      → (Const ts → wordsRun op v w ≡ true) → Does l n (operatorTermOf op a b) ts (Is ns (operatorMeaning op v w)) N
+  pub operator-does : {op a b : ℕ} {v w : Value} → Operands ts op a b → MeansValue ns v ts a → Second ns w ts b → ((operandsOf op ≡ 1 → ⊥) → MeansValue ns w ts b)
+      → (Const ts → wordsRun op v w ≡ true) → Does l n (operatorTermOf op a b) ts (MeansValue ns (operatorMeaning op v w)) N
   unfolding operatorTermOf wordIn isAWord
   operator-does {op} {a} {b} {v} {w} h x y z c =
       does-read _ _ (does-eq _ _ (λ e. let i : v ≡ word (termWord (at ts a)) = word-at ns a f (x .named .low) (x .is) e in
@@ -170,9 +170,9 @@ module _ {l n : ℕ} {N : ℕ → Type 0} (full : N tableFull) {ns : List ℕ} {
       made (λ q. absurd (k (word-constant-kind f (z d) q (words-second op v w (c q) d)))))))
       λ e. made (λ q. absurd (e (word-constant-kind f x q (words-first op v w (c q))))))
     where
-      made : (Const ts → isConstant (term operatorTerm op a b 0) ≡ true) → Does l n (makeOf (term operatorTerm op a b 0)) ts (Is ns (operatorMeaning op v w)) N
+      made : (Const ts → isConstant (term operatorTerm op a b 0) ≡ true) → Does l n (makeOf (term operatorTerm op a b 0)) ts (MeansValue ns (operatorMeaning op v w)) N
       made q =
           does-weaken f (λ us k s j. record {
             named = operator-named j;
-            is = there-means ns (s .fit) j ∙ mean-operator ns (meaning ns us) op a b (is-step s x .is) (second-step s y .is);
+            is = there-means ns (s .fit) j ∙ mean-operator ns (meaning ns us) op a b (value-step s x .is) (second-step s y .is);
           }) (does-make full f (laid-operator h) q)

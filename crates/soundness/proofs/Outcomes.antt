@@ -12,9 +12,9 @@ use Rattle.semantics.specs.States.{stateOf, outOf}
 use Rattle.semantics.specs.Run.{Value, truth, Ended, gives, spends}
 use Rattle.semantics.specs.PlainRun.{endedOutcome}
 use Rattle.semantics.specs.Reading.{readings, readIn}
-use Rattle.typing.proofs.Steps.{Fit}
+use Rattle.typing.proofs.Does.{Fit}
 use Rattle.soundness.proofs.Means.{isProper}
-use Rattle.soundness.proofs.Held.{bo-is, no-bo, yes-bo, is-proper}
+use Rattle.soundness.proofs.Held.{truth-is-value, false-means, true-means, is-proper}
 use Rattle.soundness.proofs.Sim.{ends, on, Sim, sim-out}
 use Rattle.soundness.proofs.Merging.{on-unspent}
 use Rattle.soundness.proofs.Link.{Small}
@@ -51,4 +51,4 @@ module _ {ns : List ℕ} {ts : List Term} {r : Result} {o : Ended} (sim : Sim ns
 
 -- At the start both formulas are true, and nothing has run.
 pub starts : {n : ℕ} {ns : List ℕ} {ts : List Term} → Fit n ts → Sim ns (ends (gives (truth false))) ts (outOf (stateOf trueNumber trueNumber) 0)
-starts f = sim-out (record { S = yes-bo f; T = yes-bo f }) (bo-is (no-bo f)) (λ _. refl) refl
+starts f = sim-out (record { S = true-means f; T = true-means f }) (truth-is-value (false-means f)) (λ _. refl) refl

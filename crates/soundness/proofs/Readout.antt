@@ -18,12 +18,12 @@ use Rattle.semantics.specs.Run.{Value, truth, word, procedure, binding, none, g
 use Rattle.semantics.specs.PlainRun.{valueGiven, endedOutcome}
 use Rattle.semantics.specs.Reading.{isTrue, readings, valueOutcome, resultOutcome, readIn}
 use Rattle.typing.proofs.Formed.{never}
-use Rattle.typing.proofs.Steps.{Fit}
+use Rattle.typing.proofs.Does.{Fit}
 use Rattle.typing.proofs.Evaluation.{Ruled}
 use Rattle.soundness.proofs.Means.{isProper}
-use Rattle.soundness.proofs.Steps.{Const, Step, Post, did, not-did, Does}
-use Rattle.soundness.proofs.Held.{En, is-proper}
-use Rattle.soundness.proofs.Sim.{Seen, ends, broken, on, totalOf, StIs, Sim}
+use Rattle.soundness.proofs.Constants.{Const, Step, Post, did, not-did, Does}
+use Rattle.soundness.proofs.Held.{MeansBindings, is-proper}
+use Rattle.soundness.proofs.Sim.{Seen, ends, broken, on, totalOf, StateMeans, Sim}
 use Rattle.soundness.proofs.Simulation.{simulation}
 use Rattle.soundness.proofs.Link.{readingIn, Small, true-same, reading-link}
 
@@ -79,18 +79,18 @@ pub sim-read : {n : ℕ} {ns : List ℕ} {us : List Term} {r : Result} {o : Seen
 unfolding readIn
 sim-read {n} {ns} {us} {r} f m h =
     let link = reading-link ns n us (f .formed) m in
-    let rs = link (r .state .assumed) ∙ ap readingIn (h .st .S .is) in
-    let rt = link (r .state .asserted) ∙ ap readingIn (h .st .T .is) in
+    let rs = link (r .state .assumed) ∙ ap readingIn (h .state .S .is) in
+    let rt = link (r .state .asserted) ∙ ap readingIn (h .state .T .is) in
     let rv = link (r .value) ∙ ap readingIn (h .value .is) in
     rw (rs, rt, rv, reads-truth (h .s), reads-truth (h .t)) (result-outcome (h .s) (h .t) (r .halted) (h .v) (is-proper f (h .value)) (h .dead)) ∙ ap seenOutcome (h .sees)
 
 -- ---- one evaluation of record i in the bindings e, from the state y
 module _ {ns : List ℕ} {rule : List ℕ} (ruled : Ruled rule) (b l i e : ℕ) {y : State} {ts : List Term} {s t : Bool} {E : Value}
-    (f : Fit (b + 1) ts) (h : En ns E ts e) (st : StIs ns s t ts y) where
+    (f : Fit (b + 1) ts) (h : MeansBindings ns E ts e) (state : StateMeans ns s t ts y) where
   -- The result reads as what comes of the run at the allowance in the state before.
   pub evaluation-at : (d : ℕ) {us : List Term} {r : Result} {u : ℕ} → evalOf rule b d i e y (settingOf l) ts ≡ gave us r u → Done (b + 1) ts (Sim ns (on s t (totalOf rule d i E))) us r
-  evaluation-at d q = done (simulation l b ns rule ruled d i e y ts s t E f h st) q
+  evaluation-at d q = done (simulation l b ns rule ruled d i e y ts s t E f h state) q
 
   -- With constants alone and from a normal state, a refusal for depth is exact.
   pub evaluation-spent : (d : ℕ) → evalOf rule b d i e y (settingOf l) ts ≡ refused depthSpent → Const ts → (s && t) ≡ true → totalOf rule d i E ≡ spends
-  evaluation-spent d q c n = not-done (simulation l b ns rule ruled d i e y ts s t E f h st) q .runs-out refl c n
+  evaluation-spent d q c n = not-done (simulation l b ns rule ruled d i e y ts s t E f h state) q .runs-out refl c n

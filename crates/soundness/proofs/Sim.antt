@@ -21,11 +21,11 @@ use Rattle.semantics.specs.Evaluation.{Run, placeOf}
 use Rattle.semantics.specs.Run.{Value, truth, word, procedure, binding, none, Ended, gives, aborts, errs, spends, Running, after, isFalse, operatorRun, datumValue, callRun}
 use Rattle.typing.proofs.Grown.{at-past, sort-grown, value-grown}
 use Rattle.typing.proofs.Formed.{never, Laid, laid-at, binding-value, binding-next}
-use Rattle.typing.proofs.Steps.{Fit}
+use Rattle.typing.proofs.Does.{Fit}
 use Rattle.soundness.proofs.Means.{meaning-past}
-use Rattle.soundness.proofs.Steps.{Const, const-back, Step, Does, does-then, does-map}
+use Rattle.soundness.proofs.Constants.{Const, const-back, Step, Does, does-then, does-map}
 use Rattle.soundness.proofs.BySort.{binding-means, binding-kind}
-use Rattle.soundness.proofs.Held.{Bo, Is, En, bo-step, is-step, bo-is, no-bo, bo-false, bo-true, unknown}
+use Rattle.soundness.proofs.Held.{MeansTruth, MeansValue, MeansBindings, truth-step, value-step, truth-is-value, false-means, known-is-false, known-is-true, unknown}
 use Rattle.soundness.proofs.Factory.{and-does, implies-does}
 
 -- ---- the run with false at places past the end
@@ -65,26 +65,26 @@ on true false o = ends errs
 on false true o = ends aborts
 on false false o = broken
 
-abbrev pub asm : Bool → Bool → Bool → Bool
-asm s t x = s && (not t || x)
+abbrev pub assumed : Bool → Bool → Bool → Bool
+assumed s t x = s && (not t || x)
 
-abbrev pub ast : Bool → Bool → Bool → Bool
-ast s t x = t && (not s || x)
+abbrev pub asserted : Bool → Bool → Bool → Bool
+asserted s t x = t && (not s || x)
 
-pub record StIs (ns : List ℕ) (s t : Bool) (ts : List Term) (x : State) : Type 0 where
-  pub S : Bo ns s ts (x .assumed)
-  pub T : Bo ns t ts (x .asserted)
+pub record StateMeans (ns : List ℕ) (s t : Bool) (ts : List Term) (x : State) : Type 0 where
+  pub S : MeansTruth ns s ts (x .assumed)
+  pub T : MeansTruth ns t ts (x .asserted)
 
-pub st-step : {ns : List ℕ} {n : ℕ} {ts us : List Term} {x : State} {s t : Bool} → Step n ts us → StIs ns s t ts x → StIs ns s t us x
-st-step p h = record { S = bo-step p (h .S); T = bo-step p (h .T) }
+pub state-step : {ns : List ℕ} {n : ℕ} {ts us : List Term} {x : State} {s t : Bool} → Step n ts us → StateMeans ns s t ts x → StateMeans ns s t us x
+state-step p h = record { S = truth-step p (h .S); T = truth-step p (h .T) }
 
 -- THE POST-CONDITION: what is read of a result is the outcome o. A halt is never normal; with constants, anything else is.
 pub record Sim (ns : List ℕ) (o : Seen) (us : List Term) (r : Result) : Type 0 where
   pub s : Bool
   pub t : Bool
   pub v : Value
-  pub st : StIs ns s t us (r .state)
-  pub value : Is ns v us (r .value)
+  pub state : StateMeans ns s t us (r .state)
+  pub value : MeansValue ns v us (r .value)
   pub sees : on s t (gives v) ≡ o
   pub dead : r .halted ≡ true → (s && t) ≡ false
   pub live : r .halted ≡ false → Const us → (s && t) ≡ true
@@ -109,23 +109,23 @@ Sound l n ns ts s t o m = Does l n m ts (Sim ns (on s t o)) (Spends ts s t o)
 
 -- What the parts of a record promise: the hypothesis of the induction.
 abbrev pub Sims : ℕ → ℕ → List ℕ → Run → (ℕ → Running) → Type 0
-Sims l n ns run rn = (i e : ℕ) (x : State) (ts : List Term) (s t : Bool) (E : Value) → Fit n ts → En ns E ts e → StIs ns s t ts x
+Sims l n ns run rn = (i e : ℕ) (x : State) (ts : List Term) (s t : Bool) (E : Value) → Fit n ts → MeansBindings ns E ts e → StateMeans ns s t ts x
     → Sound l n ns ts s t (rn i E) (run i e x)
 
 -- ---- facts on states
-pub on-asm : (s t x : Bool) (o : Ended) → on (asm s t x) t o ≡ on s t (pick x o aborts)
-on-asm true true true o = refl
-on-asm true true false o = refl
-on-asm true false x o = refl
-on-asm false true x o = refl
-on-asm false false x o = refl
+pub on-assumed : (s t x : Bool) (o : Ended) → on (assumed s t x) t o ≡ on s t (pick x o aborts)
+on-assumed true true true o = refl
+on-assumed true true false o = refl
+on-assumed true false x o = refl
+on-assumed false true x o = refl
+on-assumed false false x o = refl
 
-pub on-ast : (s t x : Bool) (o : Ended) → on s (ast s t x) o ≡ on s t (pick x o errs)
-on-ast true true true o = refl
-on-ast true true false o = refl
-on-ast true false x o = refl
-on-ast false true x o = refl
-on-ast false false x o = refl
+pub on-asserted : (s t x : Bool) (o : Ended) → on s (asserted s t x) o ≡ on s t (pick x o errs)
+on-asserted true true true o = refl
+on-asserted true true false o = refl
+on-asserted true false x o = refl
+on-asserted false true x o = refl
+on-asserted false false x o = refl
 
 abbrev pub afterSeen : Seen → (Value → Ended) → Seen
 afterSeen (ends o) k = ends (after o k)
@@ -169,13 +169,13 @@ module _ {n : ℕ} {ts : List Term} (f : Fit n ts) where
   place-past (suc p) = let s = f .short in ap (λ t. placeOf p (t .b) ts) (at-past ts noBinding (omega arith)) ∙ place-0 p
 
 module _ {ns : List ℕ} {n : ℕ} where
-  look-none : {ts : List Term} (p : ℕ) → Fit n ts → Is ns (lookOf p none) ts (placeOf p noBinding ts)
+  look-none : {ts : List Term} (p : ℕ) → Fit n ts → MeansValue ns (lookOf p none) ts (placeOf p noBinding ts)
   unfolding lookOf
-  look-none zero f = rw (place-past f zero) (bo-is (no-bo f))
-  look-none (suc p) f = rw (place-past f (suc p)) (bo-is (no-bo f))
+  look-none zero f = rw (place-past f zero) (truth-is-value (false-means f))
+  look-none (suc p) f = rw (place-past f (suc p)) (truth-is-value (false-means f))
 
   -- a place of the bindings
-  pub place-is : {ts : List Term} (p e : ℕ) {E : Value} → Fit n ts → En ns E ts e → Is ns (lookOf p E) ts (placeOf p e ts)
+  pub place-is : {ts : List Term} (p e : ℕ) {E : Value} → Fit n ts → MeansBindings ns E ts e → MeansValue ns (lookOf p E) ts (placeOf p e ts)
   unfolding placeOf lookOf
   place-is {ts} zero e {E} f h =
       let y : Laid n ts e = laid-at n ts e (f .formed) (h .sort .low) in
@@ -209,58 +209,58 @@ module _ (ts : List Term) (x : State) where
       go false false p q e = f (eqb-false _ _ p) (eqb-false _ _ q)
 
 -- with constants, a truth that is not known to be false is true
-not-false : {ns : List ℕ} {n : ℕ} {ts : List Term} {x : ℕ} {b : Bool} → Fit n ts → Bo ns b ts x → (knownOf (at ts x) ≡ 0 → ⊥) → Const ts → b ≡ true
+not-false : {ns : List ℕ} {n : ℕ} {ts : List Term} {x : ℕ} {b : Bool} → Fit n ts → MeansTruth ns b ts x → (knownOf (at ts x) ≡ 0 → ⊥) → Const ts → b ≡ true
 not-false {ts = ts} {x} {b} f h d c = go (eqb (knownOf (at ts x)) 1) refl
   where
     go : (i : Bool) → eqb (knownOf (at ts x)) 1 ≡ i → b ≡ true
-    go true e = bo-true f h (eqb-true _ _ e)
+    go true e = known-is-true f h (eqb-true _ _ e)
     go false e = unknown f h d (eqb-false _ _ e) c
 
-module _ {ns : List ℕ} {n : ℕ} {ts : List Term} {x : State} {s t : Bool} (f : Fit n ts) (h : StIs ns s t ts x) where
+module _ {ns : List ℕ} {n : ℕ} {ts : List Term} {x : State} {s t : Bool} (f : Fit n ts) (h : StateMeans ns s t ts x) where
   pub stops-dead : haltsOf x ts ≡ true → (s && t) ≡ false
-  stops-dead e = halts-known ts x e (λ i. rw (bo-false f (h .S) i)) (λ i. rw (bo-false f (h .T) i, and-false s))
+  stops-dead e = halts-known ts x e (λ i. rw (known-is-false f (h .S) i)) (λ i. rw (known-is-false f (h .T) i, and-false s))
 
   pub runs-live : haltsOf x ts ≡ false → Const ts → (s && t) ≡ true
   runs-live e c = runs-known ts x e (λ i j. rw (not-false f (h .S) i c, not-false f (h .T) j c))
 
 module _ {l n : ℕ} {N : ℕ → Type 0} (room : N tableFull) {ns : List ℕ} where
-  pub merge-assumed-does : {ts : List Term} {x : State} {g c : ℕ} {s t a b : Bool} → Fit n ts → StIs ns s t ts x → Bo ns a ts g → Bo ns b ts c
-      → Does l n (mergeAssumedOf x g c) ts (StIs ns (s && (not a || b)) t) N
+  pub merge-assumed-does : {ts : List Term} {x : State} {g c : ℕ} {s t a b : Bool} → Fit n ts → StateMeans ns s t ts x → MeansTruth ns a ts g → MeansTruth ns b ts c
+      → Does l n (mergeAssumedOf x g c) ts (StateMeans ns (s && (not a || b)) t) N
   unfolding mergeAssumedOf
   merge-assumed-does f h k i =
-      does-then (implies-does room f k i) (λ us a g j. does-map _ (and-does room (g .fit) (bo-step g (h .S)) j)
-      (λ ws b p q. record { S = q; T = bo-step p (bo-step g (h .T)) }))
+      does-then (implies-does room f k i) (λ us a g j. does-map _ (and-does room (g .fit) (truth-step g (h .S)) j)
+      (λ ws b p q. record { S = q; T = truth-step p (truth-step g (h .T)) }))
 
-  pub merge-asserted-does : {ts : List Term} {x : State} {g c : ℕ} {s t a b : Bool} → Fit n ts → StIs ns s t ts x → Bo ns a ts g → Bo ns b ts c
-      → Does l n (mergeAssertedOf x g c) ts (StIs ns s (t && (not a || b))) N
+  pub merge-asserted-does : {ts : List Term} {x : State} {g c : ℕ} {s t a b : Bool} → Fit n ts → StateMeans ns s t ts x → MeansTruth ns a ts g → MeansTruth ns b ts c
+      → Does l n (mergeAssertedOf x g c) ts (StateMeans ns s (t && (not a || b))) N
   unfolding mergeAssertedOf
   merge-asserted-does f h k i =
-      does-then (implies-does room f k i) (λ us a g j. does-map _ (and-does room (g .fit) (bo-step g (h .T)) j)
-      (λ ws b p q. record { S = bo-step p (bo-step g (h .S)); T = q }))
+      does-then (implies-does room f k i) (λ us a g j. does-map _ (and-does room (g .fit) (truth-step g (h .T)) j)
+      (λ ws b p q. record { S = truth-step p (truth-step g (h .S)); T = q }))
 
-  pub assume-does : {ts : List Term} {x : State} {g : ℕ} {s t b : Bool} → Fit n ts → StIs ns s t ts x → Bo ns b ts g → Does l n (assumeOf x g) ts (StIs ns (asm s t b) t) N
+  pub assume-does : {ts : List Term} {x : State} {g : ℕ} {s t b : Bool} → Fit n ts → StateMeans ns s t ts x → MeansTruth ns b ts g → Does l n (assumeOf x g) ts (StateMeans ns (assumed s t b) t) N
   unfolding assumeOf
   assume-does f h k = merge-assumed-does f h (h .T) k
 
-  pub assert-does : {ts : List Term} {x : State} {g : ℕ} {s t b : Bool} → Fit n ts → StIs ns s t ts x → Bo ns b ts g → Does l n (assertOf x g) ts (StIs ns s (ast s t b)) N
+  pub assert-does : {ts : List Term} {x : State} {g : ℕ} {s t b : Bool} → Fit n ts → StateMeans ns s t ts x → MeansTruth ns b ts g → Does l n (assertOf x g) ts (StateMeans ns s (asserted s t b)) N
   unfolding assertOf
   assert-does f h k = merge-asserted-does f h (h .S) k
 
 -- ---- results
 module _ {ns : List ℕ} where
   pub sim-out : {us : List Term} {o : Seen} {x : State} {k : ℕ} {s t : Bool} {v : Value}
-      → StIs ns s t us x → Is ns v us k → (Const us → (s && t) ≡ true) → on s t (gives v) ≡ o → Sim ns o us (outOf x k)
-  sim-out {s = s} {t} {v} h i l e = record { s = s; t = t; v = v; st = h; value = i; sees = e; dead = λ q. never q; live = λ q c. l c }
+      → StateMeans ns s t us x → MeansValue ns v us k → (Const us → (s && t) ≡ true) → on s t (gives v) ≡ o → Sim ns o us (outOf x k)
+  sim-out {s = s} {t} {v} h i l e = record { s = s; t = t; v = v; state = h; value = i; sees = e; dead = λ q. never q; live = λ q c. l c }
 
-  pub sim-halt : {n : ℕ} {us : List Term} {o : Seen} {x : State} {s t : Bool} → Fit n us → StIs ns s t us x → (s && t) ≡ false
+  pub sim-halt : {n : ℕ} {us : List Term} {o : Seen} {x : State} {s t : Bool} → Fit n us → StateMeans ns s t us x → (s && t) ≡ false
       → ((v : Value) → on s t (gives v) ≡ o) → Sim ns o us (haltOf x)
   sim-halt {s = s} {t} f h d e =
-      record { s = s; t = t; v = truth false; st = h; value = bo-is (no-bo f); sees = e (truth false); dead = λ q. d; live = λ q c. never (sym q) }
+      record { s = s; t = t; v = truth false; state = h; value = truth-is-value (false-means f); sees = e (truth false); dead = λ q. d; live = λ q c. never (sym q) }
 
   pub sim-step : {n : ℕ} {ts us : List Term} {o : Seen} {r : Result} → Step n ts us → Sim ns o ts r → Sim ns o us r
   sim-step p h =
-      record { s = h .s; t = h .t; v = h .v; st = st-step p (h .st); value = is-step p (h .value); sees = h .sees; dead = h .dead; live = λ i c. h .live i (const-back (p .grown) c) }
+      record { s = h .s; t = h .t; v = h .v; state = state-step p (h .state); value = value-step p (h .value); sees = h .sees; dead = h .dead; live = λ i c. h .live i (const-back (p .grown) c) }
 
   -- the same result, its outcome named otherwise
   pub sim-as : {o p : Seen} {us : List Term} {r : Result} → o ≡ p → Sim ns o us r → Sim ns p us r
-  sim-as q h = record { s = h .s; t = h .t; v = h .v; st = h .st; value = h .value; sees = h .sees ∙ q; dead = h .dead; live = h .live }
+  sim-as q h = record { s = h .s; t = h .t; v = h .v; state = h .state; value = h .value; sees = h .sees ∙ q; dead = h .dead; live = h .live }

@@ -14,7 +14,7 @@ use Rattle.semantics.specs.Records.{recordAt, datumWord}
 use Rattle.semantics.specs.Evaluation.{Run, expressionOf, liveOf, evalOf}
 use Rattle.semantics.specs.Run.{Value, binding, gives, aborts, errs, Running, after, isFalse, operatorRun, datumValue, callRun, procedure}
 use Rattle.typing.proofs.Evaluation.{Ruled}
-use Rattle.soundness.proofs.Steps.{does-give, does-refuse, does-read, does-with, does-if, does-eq, does-up}
+use Rattle.soundness.proofs.Constants.{does-give, does-refuse, does-read, does-with, does-if, does-eq, does-up}
 use Rattle.soundness.proofs.Sim.{lookOf, totalExpression, totalOf, spent, Sound, Sims, on-off, place-is, stops-dead, runs-live, sim-halt}
 use Rattle.soundness.proofs.Cases.{Entry, datum-sim, variable-sim, procedure-sim, abort-sim, error-sim, operator-sim, let-sim, if-sim}
 use Rattle.soundness.proofs.Calling.{call-sim}
@@ -63,26 +63,26 @@ module _ (l b : ℕ) (ns : List ℕ) (rule : List ℕ) (ruled : Ruled rule) wher
     expression-sim : {ts : List Term} {e : ℕ} {y : State} {s t : Bool} {E : Value} (i : ℕ) → Entry (b + 1) ns ts e y s t E
         → Sound l (b + 1) ns ts s t (totalExpression rule rn (recordAt rule i) i E) (expressionOf rule b run (recordAt rule i) i e y)
     unfolding expressionOf
-    expression-sim {ts} {e} {y} {s} {t} {E} i en =
-        does-eq _ _ (λ k. rw (total-datum rule rn (recordAt rule i) i E k) (datum-sim en _ _ (ruled .datum i k))) λ k₁.
-        does-eq _ _ (λ k. rw (total-variable rule rn (recordAt rule i) i E k) (variable-sim en _)) λ k₂.
-        does-eq _ _ (λ k. rw (total-procedure rule rn (recordAt rule i) i E k) (procedure-sim en i b (ruled .procedure i k) (omega arith))) λ k₃.
+    expression-sim {ts} {e} {y} {s} {t} {E} i entry =
+        does-eq _ _ (λ k. rw (total-datum rule rn (recordAt rule i) i E k) (datum-sim entry _ _ (ruled .datum i k))) λ k₁.
+        does-eq _ _ (λ k. rw (total-variable rule rn (recordAt rule i) i E k) (variable-sim entry _)) λ k₂.
+        does-eq _ _ (λ k. rw (total-procedure rule rn (recordAt rule i) i E k) (procedure-sim entry i b (ruled .procedure i k) (omega arith))) λ k₃.
         does-eq _ _ (λ k. rw (total-call rule rn (recordAt rule i) i E k) (does-read _ _ (does-read _ _
-        (call-sim rule ih (en .fit) (en .st) (en .open-const) (place-is (recordAt rule i .p) e (en .fit) (en .env)) (place-is (recordAt rule i .q) e (en .fit) (en .env)))))) λ k₄.
-        does-eq _ _ (λ k. rw (total-operator rule rn (recordAt rule i) i E k) (operator-sim en _ _ _ (ruled .operator i k))) λ k₅.
-        does-eq _ _ (λ k. rw (total-let rule rn (recordAt rule i) i E k) (let-sim en ih _ _)) λ k₆.
-        does-eq _ _ (λ k. rw (total-if rule rn (recordAt rule i) i E k) (if-sim en ih _ _ _)) λ k₇.
-        does-eq _ _ (λ k. rw (total-abort rule rn (recordAt rule i) i E k) (abort-sim en)) λ k₈.
-        rw (total-error rule rn (recordAt rule i) i E k₁ k₂ k₃ k₄ k₅ k₆ k₇ k₈) (error-sim en)
+        (call-sim rule ih (entry .fit) (entry .state) (entry .open-const) (place-is (recordAt rule i .p) e (entry .fit) (entry .env)) (place-is (recordAt rule i .q) e (entry .fit) (entry .env)))))) λ k₄.
+        does-eq _ _ (λ k. rw (total-operator rule rn (recordAt rule i) i E k) (operator-sim entry _ _ _ (ruled .operator i k))) λ k₅.
+        does-eq _ _ (λ k. rw (total-let rule rn (recordAt rule i) i E k) (let-sim entry ih _ _)) λ k₆.
+        does-eq _ _ (λ k. rw (total-if rule rn (recordAt rule i) i E k) (if-sim entry ih _ _ _)) λ k₇.
+        does-eq _ _ (λ k. rw (total-abort rule rn (recordAt rule i) i E k) (abort-sim entry)) λ k₈.
+        rw (total-error rule rn (recordAt rule i) i E k₁ k₂ k₃ k₄ k₅ k₆ k₇ k₈) (error-sim entry)
 
     live-sim : Sims l (b + 1) ns (liveOf rule b run) (λ i. totalExpression rule rn (recordAt rule i) i)
     unfolding liveOf
-    live-sim i e y ts s t E f h st =
+    live-sim i e y ts s t E f h state =
         does-read _ _ (does-if _
-        (λ q. let d = stops-dead f st q in does-give _ f (sim-halt f st d (λ v. on-off s t (gives v) (totalExpression rule rn (recordAt rule i) i E) d)))
-        (λ q. does-with _ _ (expression-sim i (record { fit = f; env = h; st = st; open-const = runs-live f st q }))))
+        (λ q. let d = stops-dead f state q in does-give _ f (sim-halt f state d (λ v. on-off s t (gives v) (totalExpression rule rn (recordAt rule i) i E) d)))
+        (λ q. does-with _ _ (expression-sim i (record { fit = f; env = h; state = state; open-const = runs-live f state q }))))
 
   pub simulation : (d : ℕ) → Sims l (b + 1) ns (evalOf rule b d) (totalOf rule d)
   unfolding evalOf totalOf
-  simulation zero i e y ts s t E f h st = does-refuse depthSpent spent
-  simulation (suc d) i e y ts s t E f h st = does-up (live-sim (evalOf rule b d) (totalOf rule d) (simulation d) i e y ts s t E f h st)
+  simulation zero i e y ts s t E f h state = does-refuse depthSpent spent
+  simulation (suc d) i e y ts s t E f h state = does-up (live-sim (evalOf rule b d) (totalOf rule d) (simulation d) i e y ts s t E f h state)

@@ -18,9 +18,9 @@ use Rattle.semantics.specs.Run.{Value}
 use Rattle.typing.proofs.Grown.{Grown, still, more, at-lower, at-newest, at-grown, Value as Named, sort-grown, value-grown}
 use Rattle.typing.proofs.Formed.{never, choice-names, formed-newest}
 use Rattle.soundness.proofs.Means.{meaning}
-use Rattle.soundness.proofs.Steps.{Const, const-back, Step, step-on, Does, does-give, does-refuse, does-then, does-weaken, does-read, does-with, does-eq, does-below}
+use Rattle.soundness.proofs.Constants.{Const, const-back, Step, step-on, Does, does-give, does-refuse, does-then, does-weaken, does-read, does-with, does-eq, does-below}
 use Rattle.soundness.proofs.BySort.{means-choice, means-at}
-use Rattle.soundness.proofs.Held.{Bo, Is, bo-step, is-step, some-bo, bo-false}
+use Rattle.soundness.proofs.Held.{MeansTruth, MeansValue, truth-step, value-step, some-truth, known-is-false}
 use Rattle.soundness.proofs.Factory.{not-does, and-does, no-choice}
 
 -- ---- a term and those that were there before it
@@ -50,8 +50,8 @@ unfolding sortOf if_equals_then_else_
 choice-of t e = rw e
 
 -- ---- leaves
-pub record LeafIs (ns : List ℕ) (ts : List Term) (v : Value) (l : Leaf) (g : Bool) : Type 0 where
-  pub guard : Bo ns g ts (l .guard)
+pub record LeafMeans (ns : List ℕ) (ts : List Term) (v : Value) (l : Leaf) (g : Bool) : Type 0 where
+  pub guard : MeansTruth ns g ts (l .guard)
   pub number : ℕ
   pub named : Named ts number
   pub is : at ts number ≡ l .term
@@ -61,7 +61,7 @@ pub record LeafIs (ns : List ℕ) (ts : List Term) (v : Value) (l : Leaf) (g : B
 
 pub data Leaves (ns : List ℕ) (ts : List Term) (v : Value) : List Leaf → List Bool → Type 0 where
   no-leaf : Leaves ns ts v [] []
-  leaf : {l : Leaf} {g : Bool} {ls : List Leaf} {gs : List Bool} → LeafIs ns ts v l g → Leaves ns ts v ls gs → Leaves ns ts v (l ∷ ls) (g ∷ gs)
+  leaf : {l : Leaf} {g : Bool} {ls : List Leaf} {gs : List Bool} → LeafMeans ns ts v l g → Leaves ns ts v ls gs → Leaves ns ts v (l ∷ ls) (g ∷ gs)
 
 abbrev pub some-of : List Bool → Bool
 some-of [] = false
@@ -76,12 +76,12 @@ pub record Walked (ns : List ℕ) (found : List Leaf) (v : Value) (x : Bool) (ts
   pub some : some-of gs ≡ x
 
 module _ {ns : List ℕ} {n : ℕ} where
-  pub leaf-step : {ts us : List Term} {v : Value} {l : Leaf} {g : Bool} → Step n ts us → LeafIs ns ts v l g → LeafIs ns us v l g
+  pub leaf-step : {ts us : List Term} {v : Value} {l : Leaf} {g : Bool} → Step n ts us → LeafMeans ns ts v l g → LeafMeans ns us v l g
   leaf-step {ts} {us} p h =
-      let i : Is ns (meaning ns us (h .number)) us (h .number) = record { named = value-grown (p .grown) (h .named); is = refl } in
-      let j : Is ns (meaning ns ts (h .number)) us (h .number) = is-step p (record { named = h .named; is = refl }) in
+      let i : MeansValue ns (meaning ns us (h .number)) us (h .number) = record { named = value-grown (p .grown) (h .named); is = refl } in
+      let j : MeansValue ns (meaning ns ts (h .number)) us (h .number) = value-step p (record { named = h .named; is = refl }) in
       record {
-        guard = bo-step p (h .guard);
+        guard = truth-step p (h .guard);
         number = h .number;
         named = i .named;
         is = at-grown (h .number) (p .grown) (h .named .low) ∙ h .is;
@@ -126,14 +126,14 @@ some-app (false ∷ gs) hs = some-app gs hs
 module _ (l n : ℕ) (ns : List ℕ) (N : ℕ → Type 0) (top : List Term) (room : N tableFull) (wide : (Const top → ⊥) → N callTooWide) where
   abbrev Walks : ℕ → Walk → Type 0
   Walks d w = (ts : List Term) (path x : ℕ) (found : List Leaf) (b : Bool) (v : Value) → x < d → Step n top ts → (Const ts → length found < leafLimit)
-      → Bo ns b ts path → (Const ts → b ≡ true) → Is ns v ts x → Does l n (w path x found) ts (Walked ns found v b) N
+      → MeansTruth ns b ts path → (Const ts → b ≡ true) → MeansValue ns v ts x → Does l n (w path x found) ts (Walked ns found v b) N
 
   module _ (d : ℕ) (w : Walk) (ih : Walks d w) where
     side-does : (ts : List Term) (path x : ℕ) (found : List Leaf) (b : Bool) (v : Value) → x < d → Step n top ts → (Const ts → ⊥)
-        → Bo ns b ts path → Is ns v ts x → Does l n (sideOf w path x found) ts (Walked ns found v b) N
+        → MeansTruth ns b ts path → MeansValue ns v ts x → Does l n (sideOf w path x found) ts (Walked ns found v b) N
     unfolding sideOf
     side-does ts path x found b v k z mixed h i =
-        does-read _ _ (does-eq _ _ (λ e. does-give _ (z .fit) (record { new = []; is = sym (++-none found); gs = []; leaves = no-leaf; some = sym (bo-false (z .fit) h e) }))
+        does-read _ _ (does-eq _ _ (λ e. does-give _ (z .fit) (record { new = []; is = sym (++-none found); gs = []; leaves = no-leaf; some = sym (known-is-false (z .fit) h e) }))
         (λ e. ih ts path x found b v k z (λ c. absurd (mixed c)) h (λ c. absurd (mixed c)) i))
       where
         ++-none : (ls : List Leaf) → ls ++ [] ≡ ls
@@ -141,20 +141,20 @@ module _ (l n : ℕ) (ns : List ℕ) (N : ℕ → Type 0) (top : List Term) (roo
         ++-none (x ∷ xs) = ap (λ u. x ∷ u) (++-none xs)
 
     sides-does : (ts : List Term) (path : ℕ) (t : Term) (found : List Leaf) (b c : Bool) (v u : Value) → t .b < d → t .c < d → Step n top ts → (Const ts → ⊥)
-        → Bo ns b ts path → Bo ns c ts (t .a) → Is ns v ts (t .b) → Is ns u ts (t .c) → Does l n (sidesOf w path t found) ts (Walked ns found (pick c v u) b) N
+        → MeansTruth ns b ts path → MeansTruth ns c ts (t .a) → MeansValue ns v ts (t .b) → MeansValue ns u ts (t .c) → Does l n (sidesOf w path t found) ts (Walked ns found (pick c v u) b) N
     unfolding sidesOf leftSideOf rightSideOf
     sides-does ts path t found b c v u lb lc z mixed h g hv hu =
         does-then (does-then (and-does room (z .fit) h g) (λ us i q hi.
-        side-does us i (t .b) found (b && c) v lb (step-on z q) (λ o. mixed (const-back (q .grown) o)) hi (is-step q hv))) (λ us ls q hl. let zq = step-on z q in
-        does-then (not-does room (q .fit) (bo-step q g)) (λ vs j r hj. let qr = step-on q r in
-        does-then (and-does room (r .fit) (bo-step qr h) hj) (λ ws k y hk. let qy = step-on qr y in
+        side-does us i (t .b) found (b && c) v lb (step-on z q) (λ o. mixed (const-back (q .grown) o)) hi (value-step q hv))) (λ us ls q hl. let zq = step-on z q in
+        does-then (not-does room (q .fit) (truth-step q g)) (λ vs j r hj. let qr = step-on q r in
+        does-then (and-does room (r .fit) (truth-step qr h) hj) (λ ws k y hk. let qy = step-on qr y in
         does-weaken (y .fit) (λ xs os p ho. record {
           new = hl .new ++ ho .new;
           is = ho .is ∙ (ap (λ e. e ++ ho .new) (hl .is) ∙ ++-assoc found (hl .new) (ho .new));
           gs = hl .gs ++ ho .gs;
           leaves = leaves-app (leaves-as (λ i. left b c (sym (hl .some) ∙ i)) (leaves-step (step-on (step-on r y) p) (hl .leaves))) (leaves-as (λ i. right b c (sym (ho .some) ∙ i)) (ho .leaves));
           some = some-app (hl .gs) (ho .gs) ∙ rw (hl .some, ho .some) (both b c);
-        }) (side-does ws k (t .c) ls (b && not c) u lc (step-on z qy) (λ o. mixed (const-back (qy .grown) o)) hk (is-step qy hu)))))
+        }) (side-does ws k (t .c) ls (b && not c) u lc (step-on z qy) (λ o. mixed (const-back (qy .grown) o)) hk (value-step qy hu)))))
       where
         left : (x y : Bool) → (x && y) ≡ true → v ≡ pick y v u
         left true true i = refl
@@ -172,7 +172,7 @@ module _ (l n : ℕ) (ns : List ℕ) (N : ℕ → Type 0) (top : List Term) (roo
         both false y = refl
 
     leaf-does : (ts : List Term) (path x : ℕ) (found : List Leaf) (b : Bool) (v : Value) → Step n top ts → (Const ts → length found < leafLimit)
-        → Bo ns b ts path → (Const ts → b ≡ true) → Is ns v ts x → (at ts x .kind ≡ choiceTerm → ⊥) → Does l n (leafOf found path (at ts x)) ts (Walked ns found v b) N
+        → MeansTruth ns b ts path → (Const ts → b ≡ true) → MeansValue ns v ts x → (at ts x .kind ≡ choiceTerm → ⊥) → Does l n (leafOf found path (at ts x)) ts (Walked ns found v b) N
     unfolding leafOf
     leaf-does ts path x found b v z few h live i plain =
         does-with _ _ (does-below _ _ (λ k. does-give _ (z .fit) (record {
@@ -194,7 +194,7 @@ module _ (l n : ℕ) (ns : List ℕ) (N : ℕ → Type 0) (top : List Term) (roo
         let lb = o .1 .low in let lc = o .2 .low in let q = y .len in
         subst (λ a. Does l n (sidesOf w path (at ts x) found) ts (Walked ns found a b) N)
         (sym (means-choice ns (meaning ns ts) (at ts x) e) ∙ (sym (means-at ns f x (i .named .low)) ∙ i .is))
-        (sides-does ts path (at ts x) found b _ _ _ (omega arith) (omega arith) z (λ c. constant-choice e c) h (some-bo f (sort-grown (y .grown) (o .0)))
+        (sides-does ts path (at ts x) found b _ _ _ (omega arith) (omega arith) z (λ c. constant-choice e c) h (some-truth f (sort-grown (y .grown) (o .0)))
         (record { named = value-grown (y .grown) (o .1); is = refl }) (record { named = value-grown (y .grown) (o .2); is = refl })))
         (λ e. leaf-does ts path x found b v z few h live i e))
       where

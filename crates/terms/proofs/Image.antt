@@ -11,7 +11,7 @@ use borrow.Author.Tests.{ltb-true, ltb-false}
 use Rattle.notation.specs.Notation.{with}
 use Rattle.semantics.specs.Records.{recordAt}
 use Rattle.semantics.specs.Terms.{termAt, bytesOf, termsIn, put, imageOf}
-use Rattle.terms.proofs.Laws.{terms-length}
+use Rattle.terms.proofs.Tables.{terms-length}
 use Rattle.terms.proofs.Put.{put-length, put-below, put-at, put-past}
 
 pub image-length : (l : ℕ) (s : List ℕ) (n : ℕ) → n * 8 ≤ l → length (imageOf l (termsIn s n)) ≡ l

@@ -1,6 +1,6 @@
-pub mod Laws
+pub mod Tables
 pub mod Put
-pub mod Steps
+pub mod Gives
 pub mod Wiped
 pub mod Arrays
 pub mod Image

@@ -9,7 +9,7 @@ use lib.ListN.{length, getD, set, take, replicate, length-append, length-replica
 use lib.Seq.{ext-getD, length-take-le, getD-take, getD-append-add, take-all, take-suc-set, append-snoc}
 use lib.Dec.{ltb}
 use borrow.Author.Tests.{ltb-true, ltb-false}
-use Rattle.terms.specs.Gives.{Kept, wiped}
+use Rattle.terms.specs.Gives.{OnlyAppends, wiped}
 
 module _ (s : List ℕ) (k : ℕ) where
   pub wiped-done : length s ≤ k → wiped s k ≡ s
@@ -23,7 +23,7 @@ module _ (s : List ℕ) (k : ℕ) where
       simp (length-set, add-one, take-suc-set s k 0 h, append-snoc, e)
 
 -- a table with room for n terms, zero after them, on which steps were taken
-module _ (s y : List ℕ) (n m : ℕ) (g : Kept s n y m) (room : n * 8 ≤ length s) (tail : (k : ℕ) → n * 8 ≤ k → getD s k 0 ≡ 0) where
+module _ (s y : List ℕ) (n m : ℕ) (g : OnlyAppends s n y m) (room : n * 8 ≤ length s) (tail : (k : ℕ) → n * 8 ≤ k → getD s k 0 ≡ 0) where
   long : length (take (n * 8) y) ≡ n * 8
   long = let l = g .long in length-take-le (n * 8) y (omega arith)
 

@@ -15,7 +15,7 @@ abbrev pub shown : {A : Type 0} → ℕ → List Term → A → ℕ → Got A
 shown r ts a u = pick (eqb r 0) (gave ts a u) (refused r)
 
 -- Only records from n to c are written.
-pub record Kept (s : List ℕ) (n : ℕ) (y : List ℕ) (c : ℕ) : Type 0 where
+pub record OnlyAppends (s : List ℕ) (n : ℕ) (y : List ℕ) (c : ℕ) : Type 0 where
   pub long : length y ≡ length s
   pub grows : n ≤ c
   pub fits : n * 8 ≤ length s → c * 8 ≤ length y
@@ -26,7 +26,7 @@ pub record Kept (s : List ℕ) (n : ℕ) (y : List ℕ) (c : ℕ) : Type 0 where
 -- From the table s with n terms the step m gives the refusal r, the answer a and the depth u, and leaves the table y with c terms.
 pub record Gives {A : Type 0} (m : Make A) (s : List ℕ) (n r c u : ℕ) (a : A) (y : List ℕ) : Type 0 where
   pub is : shown r (termsIn y c) a u ≡ m (codeSetting (length s)) (termsIn s n)
-  pub kept : Kept s n y c
+  pub kept : OnlyAppends s n y c
 
 -- the same, with at most the depth d
 pub record Within (d : ℕ) {A : Type 0} (m : Make A) (s : List ℕ) (n r c u : ℕ) (a : A) (y : List ℕ) : Type 0 where

@@ -21,7 +21,7 @@ use Rattle.semantics.specs.Merge.{branchOf}
 use Rattle.semantics.specs.Evaluation.{Run, placeOf, datumOf, procedureOf, abortOf, errorOf, wordsOf, operationOf, testOf, operatorOf, secondOf, underOf, letOf, Fork, forkOf, branchesOf, bothOf, ifOf, applyOf, targetOf, targetsOf, callOf, expressionOf, liveOf, evalOf}
 use Rattle.typing.proofs.Grown.{grown-on, at-past, Sort, Value, sort-grown, value-grown, value-of}
 use Rattle.typing.proofs.Formed.{Laid, laid-at, binding-value, binding-next}
-use Rattle.typing.proofs.Steps.{Fit, Does, Every, every-grown, does-give, does-refuse, does-then, does-map, does-read, does-with, does-if, does-eq, does-below, does-up}
+use Rattle.typing.proofs.Does.{Fit, Does, Every, every-grown, does-give, does-refuse, does-then, does-map, does-read, does-with, does-if, does-eq, does-below, does-up}
 use Rattle.typing.proofs.Factory.{Truth, operands-grown, true-truth, false-truth, false-value, truth-value, laid-binding, laid-procedure, Operands, procedure-sort, binding-sort, makes, not-does, and-does, truth-does, is-word-does, is-procedure-does, word-does, operator-does}
 use Rattle.typing.proofs.States.{Stated, Resulted, stated-grown, halted, given, assume-does, assert-does}
 use Rattle.typing.proofs.Walk.{Leafed, leafed-grown, aim-does}

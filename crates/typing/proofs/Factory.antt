@@ -15,7 +15,7 @@ use Rattle.semantics.specs.Factory.{notOf, andOf, orOf, impliesOf, choiceOf, tr
 use Rattle.semantics.proofs.Fields.{high-unused}
 use Rattle.typing.proofs.Grown.{Grown, Sort, Value, sort-grown, value-grown, value-of, sort-at, truth-named, choice-named, binding-named}
 use Rattle.typing.proofs.Formed.{There}
-use Rattle.typing.proofs.Steps.{Lies, Fit, Does, does-give, does-then, does-weaken, does-read, does-with, does-if, does-eq, does-make}
+use Rattle.typing.proofs.Does.{Lies, Fit, Does, does-give, does-then, does-weaken, does-read, does-with, does-if, does-eq, does-make}
 
 abbrev pub Truth : List Term → ℕ → Type 0
 Truth ts x = Sort truthTerm ts x

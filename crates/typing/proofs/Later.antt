@@ -11,7 +11,7 @@ use Rattle.semantics.specs.declared.Term.{Term}
 use Rattle.semantics.specs.Numbers.{procedureTerm, recordLimit}
 use Rattle.semantics.specs.Terms.{namesBinding, laidOut, wellFormed}
 use Rattle.typing.proofs.Formed.{never, both, by-test, formed-newest}
-use Rattle.typing.proofs.Steps.{Fit}
+use Rattle.typing.proofs.Does.{Fit}
 
 laid-later : (n : ℕ) (ts : List Term) (t : Term) → laidOut n ts t ≡ true → laidOut (n + 1) ts t ≡ true
 unfolding laidOut if_equals_then_else_

@@ -1,6 +1,6 @@
 pub mod Grown
 pub mod Formed
-pub mod Steps
+pub mod Does
 pub mod Later
 pub mod Factory
 pub mod States

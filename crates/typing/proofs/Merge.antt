@@ -12,7 +12,7 @@ use Rattle.semantics.specs.declared.Branch.{Branch}
 use Rattle.semantics.specs.Steps.{give, each}
 use Rattle.semantics.specs.Merge.{branchOf, assumedStep, assertedStep, mergeStatesOf, valueStepOf, mergeValuesOf, finishOf, mergeOf}
 use Rattle.typing.proofs.Grown.{Grown, Value, sort-grown, value-grown}
-use Rattle.typing.proofs.Steps.{Fit, Does, Every, every-grown, does-give, does-then, does-map, does-read, does-if, does-each}
+use Rattle.typing.proofs.Does.{Fit, Does, Every, every-grown, does-give, does-then, does-map, does-read, does-if, does-each}
 use Rattle.typing.proofs.Factory.{Truth, choice-does}
 use Rattle.typing.proofs.States.{Stated, Resulted, stated-grown, halted, given, merge-assumed-does, merge-asserted-does}
 

@@ -7,7 +7,7 @@ use Rattle.semantics.specs.declared.State.{State}
 use Rattle.semantics.specs.declared.Result.{Result}
 use Rattle.semantics.specs.States.{mergeAssumedOf, mergeAssertedOf, assumeOf, assertOf, outOf, haltOf}
 use Rattle.typing.proofs.Grown.{Grown, Value, sort-grown}
-use Rattle.typing.proofs.Steps.{Fit, Does, does-then, does-map}
+use Rattle.typing.proofs.Does.{Fit, Does, does-then, does-map}
 use Rattle.typing.proofs.Factory.{Truth, false-value, and-does, implies-does}
 
 pub record Stated (ts : List Term) (x : State) : Type 0 where

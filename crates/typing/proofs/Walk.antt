@@ -12,7 +12,7 @@ use Rattle.semantics.specs.Steps.{give, refuse, each}
 use Rattle.semantics.specs.Walk.{leafOf, Walk, sideOf, leftSideOf, rightSideOf, sidesOf, nodeOf, walkOf, orTargetOf, Aim, aimOf}
 use Rattle.typing.proofs.Grown.{Grown, Sort, Value, sort-grown, value-grown}
 use Rattle.typing.proofs.Formed.{Laid, laid-at, choice-names, procedure-names}
-use Rattle.typing.proofs.Steps.{Fit, Does, Every, every-grown, does-give, does-refuse, does-then, does-map, does-read, does-with, does-eq, does-below, does-each}
+use Rattle.typing.proofs.Does.{Fit, Does, Every, every-grown, does-give, does-refuse, does-then, does-map, does-read, does-with, does-eq, does-below, does-each}
 use Rattle.typing.proofs.Factory.{Truth, false-truth, true-truth, not-does, and-does, or-does}
 use Rattle.typing.proofs.States.{Stated, stated-grown, assert-does}
 

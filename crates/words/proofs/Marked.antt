@@ -1,7 +1,7 @@
 -- P3, P4 and P5 of document 01: laws of words of any width, at the width. Assumes nothing.
 use mathlib.Core.Path.{_≡_}
 use Rattle.words.specs.Words.{width, lastWord, sumOf, zerosOf, leftOf}
-use Rattle.words.proofs.Laws.{last-wraps, zeros-of-zero, left-by-width}
+use Rattle.words.proofs.Words.{last-wraps, zeros-of-zero, left-by-width}
 use native.Mathlib.Omega.{arith}
 
 -- 65,535 + 1 is 0

@@ -11,10 +11,10 @@ use native.Mathlib.Omega.{arith}
 use Rattle.semantics.specs.Steps.{each}
 use Rattle.semantics.specs.Evaluation.{underOf, letOf, branchesOf, bothOf, ifOf, applyOf, targetOf, targetsOf, callOf, expressionOf, liveOf, evalOf}
 use Rattle.terms.specs.Gives.{from, Leads}
-use Rattle.terms.proofs.Steps.{steps, runs, leads-start, each-end, each-stop, each-next, then-map, run-stop, run-end, run-on, if-true, gives-value, on-read, then-on, if-ne, if-eq}
+use Rattle.terms.proofs.Gives.{steps, runs, leads-start, each-end, each-stop, each-next, then-map, run-stop, run-end, run-on, if-true, gives-value, on-read, then-on, if-ne, if-eq}
 use Rattle.walk.specs.Leaves.{noLeaf}
 use Rattle.merge.specs.Branches.{noBranch}
-use Rattle.evaluator.proofs.Laws.{evals, target-passed, target-run, branch-push}
+use Rattle.evaluator.proofs.Evaluation.{evals, target-passed, target-run, branch-push}
 use borrow.Fn.Kinds.{In}
 use borrow.Fn.PlainCycle.{Measures, is, falls, and}
 use Rattle.evaluator.proofs.apply.Reads as apply

@@ -1,6 +1,6 @@
 -- `evaluator::fork` meets its contract: it follows the text of its definition. Assumes nothing.
 use borrow.Author.Needs.{needs}
-use Rattle.terms.proofs.Steps.{steps}
+use Rattle.terms.proofs.Gives.{steps}
 use Rattle.semantics.specs.Evaluation.{forkOf}
 use Rattle.evaluator.proofs.fork.Statement.{statement}
 use Rattle.evaluator.proofs.fork.Tie as tie

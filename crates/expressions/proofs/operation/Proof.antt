@@ -1,7 +1,7 @@
 -- `expressions::operation` meets its contract: it follows the text of its definition. Assumes nothing.
 use borrow.Author.Needs.{needs}
 use Rattle.semantics.specs.Evaluation.{operationOf}
-use Rattle.terms.proofs.Steps.{steps}
+use Rattle.terms.proofs.Gives.{steps}
 use Rattle.expressions.proofs.operation.Statement.{statement}
 use Rattle.expressions.proofs.operation.Tie as tie
 

@@ -1,6 +1,6 @@
 -- `expressions::operator` meets its contract: it follows the text of its definition. Assumes nothing.
 use borrow.Author.Needs.{needs}
-use Rattle.terms.proofs.Steps.{steps}
+use Rattle.terms.proofs.Gives.{steps}
 use Rattle.semantics.specs.Evaluation.{operatorOf}
 use Rattle.expressions.proofs.operator.Statement.{statement}
 use Rattle.expressions.proofs.operator.Tie as tie

@@ -3,7 +3,7 @@ use borrow.Author.Needs.{needs}
 use mathlib.Core.Path.{_≡_, refl}
 use Rattle.semantics.specs.Terms.{termsIn}
 use Rattle.semantics.specs.Evaluation.{placeOf}
-use Rattle.expressions.proofs.Laws.{place-next, place-end}
+use Rattle.expressions.proofs.Places.{place-next, place-end}
 use Rattle.expressions.proofs.place.Statement.{statement}
 use Rattle.expressions.proofs.place.Tie as tie
 

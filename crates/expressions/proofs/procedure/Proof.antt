@@ -1,6 +1,6 @@
 -- `expressions::procedure` meets its contract: it follows the text of its definition. Assumes nothing.
 use borrow.Author.Needs.{needs}
-use Rattle.terms.proofs.Steps.{steps}
+use Rattle.terms.proofs.Gives.{steps}
 use Rattle.semantics.specs.Evaluation.{procedureOf}
 use Rattle.expressions.proofs.procedure.Statement.{statement}
 use Rattle.expressions.proofs.procedure.Tie as tie

@@ -1,6 +1,6 @@
 -- `expressions::test` meets its contract: it follows the text of its definition. Assumes nothing.
 use borrow.Author.Needs.{needs}
-use Rattle.terms.proofs.Steps.{steps}
+use Rattle.terms.proofs.Gives.{steps}
 use Rattle.semantics.specs.Evaluation.{testOf}
 use Rattle.expressions.proofs.test.Statement.{statement}
 use Rattle.expressions.proofs.test.Tie as tie

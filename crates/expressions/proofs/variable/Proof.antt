@@ -1,6 +1,6 @@
 -- `expressions::variable` meets its contract: it follows the text of its definition. Assumes nothing.
 use borrow.Author.Needs.{needs}
-use Rattle.terms.proofs.Steps.{steps}
+use Rattle.terms.proofs.Gives.{steps}
 use Rattle.expressions.proofs.variable.Statement.{statement}
 use Rattle.expressions.proofs.variable.Tie as tie
 

@@ -1,7 +1,7 @@
 -- `factory::and_of` meets its contract: it follows the text of its definition. Assumes nothing.
 use borrow.Author.Needs.{needs}
 use Rattle.semantics.specs.Factory.{andOf}
-use Rattle.terms.proofs.Steps.{steps}
+use Rattle.terms.proofs.Gives.{steps}
 use Rattle.factory.proofs.and_of.Statement.{statement}
 use Rattle.factory.proofs.and_of.Tie as tie
 

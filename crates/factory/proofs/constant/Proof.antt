@@ -1,7 +1,7 @@
 -- `factory::constant` meets its contract: it follows the text of its definition. Assumes nothing.
 use borrow.Author.Needs.{needs}
 use Rattle.semantics.specs.Factory.{constantOf}
-use Rattle.terms.proofs.Steps.{steps}
+use Rattle.terms.proofs.Gives.{steps}
 use Rattle.factory.proofs.constant.Statement.{statement}
 use Rattle.factory.proofs.constant.Tie as tie
 

@@ -1,7 +1,7 @@
 -- `factory::is_procedure` meets its contract: it follows the text of its definition. Assumes nothing.
 use borrow.Author.Needs.{needs}
 use Rattle.semantics.specs.Factory.{isProcedureOf}
-use Rattle.terms.proofs.Steps.{steps}
+use Rattle.terms.proofs.Gives.{steps}
 use Rattle.factory.proofs.is_procedure.Statement.{statement}
 use Rattle.factory.proofs.is_procedure.Tie as tie
 

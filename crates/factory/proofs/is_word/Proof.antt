@@ -1,7 +1,7 @@
 -- `factory::is_word` meets its contract: it follows the text of its definition. Assumes nothing.
 use borrow.Author.Needs.{needs}
 use Rattle.semantics.specs.Factory.{isWordOf}
-use Rattle.terms.proofs.Steps.{steps}
+use Rattle.terms.proofs.Gives.{steps}
 use Rattle.factory.proofs.is_word.Statement.{statement}
 use Rattle.factory.proofs.is_word.Tie as tie
 

@@ -1,7 +1,7 @@
 -- `factory::not_of` meets its contract: it follows the text of its definition. Assumes nothing.
 use borrow.Author.Needs.{needs}
 use Rattle.semantics.specs.Factory.{notOf}
-use Rattle.terms.proofs.Steps.{steps}
+use Rattle.terms.proofs.Gives.{steps}
 use Rattle.factory.proofs.not_of.Statement.{statement}
 use Rattle.factory.proofs.not_of.Tie as tie
 

@@ -1,7 +1,7 @@
 -- `factory::operator` meets its contract: it follows the text of its definition. Assumes nothing.
 use borrow.Author.Needs.{needs}
 use Rattle.semantics.specs.Factory.{operatorTermOf}
-use Rattle.terms.proofs.Steps.{steps}
+use Rattle.terms.proofs.Gives.{steps}
 use Rattle.factory.proofs.operator.Statement.{statement}
 use Rattle.factory.proofs.operator.Tie as tie
 

@@ -1,7 +1,7 @@
 -- `factory::truth` meets its contract: it follows the text of its definition. Assumes nothing.
 use borrow.Author.Needs.{needs}
 use Rattle.semantics.specs.Factory.{truthOf}
-use Rattle.terms.proofs.Steps.{steps}
+use Rattle.terms.proofs.Gives.{steps}
 use Rattle.factory.proofs.truth.Statement.{statement}
 use Rattle.factory.proofs.truth.Tie as tie
 

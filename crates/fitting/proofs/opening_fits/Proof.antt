@@ -1,7 +1,7 @@
 -- `fitting::opening_fits` meets its contract. Assumes nothing.
 use borrow.Author.Needs.{needs}
 use Rattle.notation.proofs.Follow.{tests}
-use Rattle.terms.proofs.Laws.{terms-length}
+use Rattle.terms.proofs.Tables.{terms-length}
 use Rattle.fitting.proofs.opening_fits.Statement.{statement}
 use Rattle.fitting.proofs.opening_fits.Tie as tie
 

@@ -1,6 +1,6 @@
 -- `fitting::times` meets its contract: the whole product fits. Assumes nothing.
 use borrow.Author.Needs.{needs}
-use Rattle.words.proofs.Laws.{product-fits}
+use Rattle.words.proofs.Words.{product-fits}
 use Rattle.fitting.proofs.times.Statement.{statement}
 use Rattle.fitting.proofs.times.Tie as tie
 

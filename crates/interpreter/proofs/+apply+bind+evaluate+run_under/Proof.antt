@@ -4,7 +4,7 @@ use borrow.Author.Needs.{needs}
 use Prim.Native.Nat.{ℕ, _+_, _*_, _<_}
 use borrow.Fn.Kinds.{In}
 use borrow.Fn.PlainCycle.{Measures, is, falls, and}
-use Rattle.interpreter.proofs.Steps.{steps, let-go}
+use Rattle.interpreter.proofs.Runs.{steps, let-go}
 use Rattle.interpreter.proofs.apply.Reads as apply
 use Rattle.interpreter.proofs.apply.Kinds as apply-kinds
 use Rattle.interpreter.proofs.+apply+bind+evaluate+run_under.Lts-apply as apply-lts

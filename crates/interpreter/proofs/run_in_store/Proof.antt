@@ -1,6 +1,6 @@
 -- `interpreter::run_in_store` meets its contract: what the run of record 0 comes to, over a store that is zero again. Assumes nothing.
 use borrow.Author.Needs.{needs}
-use Rattle.interpreter.proofs.Steps.{answer, wiped}
+use Rattle.interpreter.proofs.Runs.{answer, wiped}
 use Rattle.interpreter.proofs.run_in_store.Statement.{statement}
 use Rattle.interpreter.proofs.run_in_store.Tie as tie
 

@@ -1,7 +1,7 @@
 -- `interpreter::start` meets its contract: the inputs take their places first, or the store is full. Assumes nothing.
 use borrow.Author.Needs.{needs}
 use mathlib.Core.Path.{refl}
-use Rattle.interpreter.proofs.Steps.{start-full, start-run}
+use Rattle.interpreter.proofs.Runs.{start-full, start-run}
 use Rattle.interpreter.proofs.start.Statement.{statement}
 use Rattle.interpreter.proofs.start.Tie as tie
 

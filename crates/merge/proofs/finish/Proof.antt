@@ -1,7 +1,7 @@
 -- `merge::finish` meets its contract: it follows the text of its definition. Assumes nothing.
 use borrow.Author.Needs.{needs}
 use Rattle.semantics.specs.Merge.{finishOf}
-use Rattle.terms.proofs.Steps.{steps}
+use Rattle.terms.proofs.Gives.{steps}
 use Rattle.merge.proofs.finish.Statement.{statement}
 use Rattle.merge.proofs.finish.Tie as tie
 

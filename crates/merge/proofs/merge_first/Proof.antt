@@ -49,7 +49,7 @@ use Rattle.merge.specs.declared.Carried.{Carried}
 use Rattle.merge.specs.Passes.{passOf, Carries}
 use Rattle.merge.proofs.Carried as K
 use Rattle.merge.proofs.Carried.Laws as K′
-use Rattle.merge.proofs.Front.{length-front, Kept, lends-front, front-back}
+use Rattle.merge.proofs.Front.{length-front, LenderKeeps, lends-front, front-back}
 use Rattle.merge.proofs.Turns.{cv}
 use Rattle.merge.proofs.merge_lent as merge-lent
 use Rattle.merge.proofs.merge_lent.Symbol as merge-lent-def
@@ -167,7 +167,7 @@ module _ {M : Type 1} (𝓤 : URA M) (H : Heap 𝓤) (A : Atoms 𝓤) (W : Given
         assigns ! (agg ! (and-then ! (load ! (from ! (stop !)) (look ! 2 refl)) (and-then ! (load ! (from ! (fld ! refl (stop !))) (look-in ! 10 (sub ! 1 refl (whole !)))) (no-more !)))) (from ! (stop !)) (init ! 0 refl (tt, (tt, (record { fits = room₁ .0 }, tt)))) $
         -- the first n elements of the slot are lent for a lifetime ν of the call
         move ! (8 ∷ []) $ use1 W (‵ (partAt Ar fullShare ys l₆ 0)) (slot l₆) $ lft-new ! tt (λ ν. move ! (1 ∷ []) $
-        use1 W (later (some (λ (δ : GName). ‵ (ShrSlice (named 0) (ν ∷ []) G.the-row .own (xr l₆ δ) (sr l₆ ∷ [])) ⊛ ‵ (Kept G.the-row (ν ∷ []) n 64 ys l₆ 0)))) (lends-front G.the-row 𝓤 H A W tt (ν ∷ []) n 64 ys l₆ 0 (named 0) room) $ await ! tt $ pick ! (λ δ. split ! $
+        use1 W (later (some (λ (δ : GName). ‵ (ShrSlice (named 0) (ν ∷ []) G.the-row .own (xr l₆ δ) (sr l₆ ∷ [])) ⊛ ‵ (LenderKeeps G.the-row (ν ∷ []) n 64 ys l₆ 0)))) (lends-front G.the-row 𝓤 H A W tt (ν ∷ []) n 64 ys l₆ 0 (named 0) room) $ await ! tt $ pick ! (λ δ. split ! $
         -- [the list; what is kept; ν's token; _10; …; _9; …; _8; …; _7; …; (_6's right to be freed); _5; …; _4; …; _3; …; _2; …; _1; …; room for _0; …; the token; what the parameters own]
         move ! (25 ∷ []) $ fsplit ! $ drop ! $ fsplit ! $ drop ! $ fsplit ! $ drop ! $ fsplit ! $ drop ! $ fsplit ! $ move ! (4 ∷ 26 ∷ 2 ∷ 0 ∷ []) $ join ! $
         use3 W (raw (MergeC 𝓤 H A at-mem run .pre (to-merge l₆ ν δ))) (goes l₆ ν δ) $

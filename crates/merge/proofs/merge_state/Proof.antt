@@ -1,6 +1,6 @@
 -- `merge::merge_state` meets its contract: it follows the text of its definition. Assumes nothing.
 use borrow.Author.Needs.{needs}
-use Rattle.terms.proofs.Steps.{steps}
+use Rattle.terms.proofs.Gives.{steps}
 use Rattle.merge.specs.Passes.{stateStep}
 use Rattle.merge.proofs.merge_state.Statement.{statement}
 use Rattle.merge.proofs.merge_state.Tie as tie

@@ -1,7 +1,7 @@
 -- `merge::merge_value` meets its contract: it follows the text of its definition. Assumes nothing.
 use borrow.Author.Needs.{needs}
 use Rattle.semantics.specs.Merge.{valueStepOf}
-use Rattle.terms.proofs.Steps.{steps}
+use Rattle.terms.proofs.Gives.{steps}
 use Rattle.merge.proofs.merge_value.Statement.{statement}
 use Rattle.merge.proofs.merge_value.Tie as tie
 

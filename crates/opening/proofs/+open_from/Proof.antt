@@ -11,7 +11,7 @@ use Rattle.terms.proofs.make.Reads as make-reads
 use Rattle.opening.proofs.+open_from.{statement}
 use Rattle.opening.proofs.+open_from.Tie.{close}
 use borrow.Author.Needs.{needs}
-use Rattle.opening.proofs.Laws.{open-end, open-stop, open-stop-later, open-on}
+use Rattle.opening.proofs.Inputs.{open-end, open-stop, open-stop-later, open-on}
 
 abbrev μ-open-from : Measures 1 open-from-kinds.ps ℕ
 μ-open-from κs a = 16 - a .1 .1 .1 .0

@@ -1,7 +1,7 @@
 -- `opening::input` meets its contract. Assumes nothing.
 use native.Mathlib.Omega.{arith}
 use borrow.Author.Needs.{needs}
-use Rattle.opening.proofs.Laws.{no-input}
+use Rattle.opening.proofs.Inputs.{no-input}
 use Rattle.opening.proofs.input.Statement.{statement}
 use Rattle.opening.proofs.input.Tie as tie
 

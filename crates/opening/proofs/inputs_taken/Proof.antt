@@ -2,7 +2,7 @@
 use Prim.Native.Nat.{_≤_}
 use native.Mathlib.Omega.{arith}
 use borrow.Author.Needs.{needs}
-use Rattle.opening.proofs.Laws.{TakenFrom, taken-all, taken-more, taken-miss}
+use Rattle.opening.proofs.Inputs.{TakenFrom, taken-all, taken-more, taken-miss}
 use Rattle.opening.proofs.inputs_taken.Statement.{statement}
 use Rattle.opening.proofs.inputs_taken.Tie as tie
 

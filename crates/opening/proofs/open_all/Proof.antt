@@ -1,8 +1,8 @@
 -- `opening::open_all` meets its contract. Assumes nothing.
 use borrow.Author.Needs.{needs}
-use Rattle.terms.proofs.Steps.{steps}
+use Rattle.terms.proofs.Gives.{steps}
 use Rattle.opening.specs.Openings.{openAll}
-use Rattle.opening.proofs.Laws.{open-whole}
+use Rattle.opening.proofs.Inputs.{open-whole}
 use Rattle.opening.proofs.open_all.Statement.{statement}
 use Rattle.opening.proofs.open_all.Tie as tie
 

@@ -8,7 +8,7 @@ use native.Mathlib.Omega.{arith}
 use lib.ListN.{length}
 use Rattle.semantics.specs.Terms.{termsIn}
 use Rattle.terms.specs.Search.{floorOf, findFrom}
-use Rattle.terms.proofs.Laws.{find-none, find-found, find-next, find-past}
+use Rattle.terms.proofs.Tables.{find-none, find-found, find-next, find-past}
 use Rattle.terms.proofs.find.Statement.{statement}
 use Rattle.terms.proofs.find.Tie as tie
 

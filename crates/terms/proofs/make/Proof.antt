@@ -1,6 +1,6 @@
 -- `terms::make` meets its contract. Assumes nothing.
 use borrow.Author.Needs.{needs}
-use Rattle.terms.proofs.Steps.{makes}
+use Rattle.terms.proofs.Gives.{makes}
 use Rattle.terms.proofs.make.Statement.{statement}
 use Rattle.terms.proofs.make.Tie as tie
 

@@ -1,5 +1,5 @@
 -- `terms::same` meets its contract. Assumes nothing.
-use Rattle.terms.proofs.Laws.{tables}
+use Rattle.terms.proofs.Tables.{tables}
 use Rattle.terms.proofs.same.Statement.{statement}
 use Rattle.terms.proofs.same.Tie as tie
 

@@ -1,6 +1,6 @@
 -- `terms::term` meets its contract. Assumes nothing.
 use borrow.Author.Needs.{needs}
-use Rattle.terms.proofs.Laws.{tables}
+use Rattle.terms.proofs.Tables.{tables}
 use Rattle.terms.proofs.term.Statement.{statement}
 use Rattle.terms.proofs.term.Tie as tie
 

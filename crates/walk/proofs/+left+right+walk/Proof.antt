@@ -3,8 +3,8 @@
 use borrow.Author.Needs.{needs}
 use Prim.Native.Nat.{ℕ, _+_, _*_, _<_}
 use Rattle.semantics.specs.Walk.{leftSideOf, rightSideOf, sideOf, sidesOf, nodeOf}
-use Rattle.terms.proofs.Steps.{steps}
-use Rattle.walk.proofs.Laws.{walks}
+use Rattle.terms.proofs.Gives.{steps}
+use Rattle.walk.proofs.Leaves.{walks}
 use borrow.Fn.Kinds.{In}
 use borrow.Fn.PlainCycle.{Measures, is, falls, and}
 use Rattle.walk.proofs.left.Reads as left

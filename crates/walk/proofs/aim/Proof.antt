@@ -1,7 +1,7 @@
 -- `walk::aim` meets its contract: it follows the text of its definition. Assumes nothing.
 use borrow.Author.Needs.{needs}
 use Rattle.semantics.specs.Walk.{aimOf}
-use Rattle.terms.proofs.Steps.{steps}
+use Rattle.terms.proofs.Gives.{steps}
 use Rattle.walk.proofs.aim.Statement.{statement}
 use Rattle.walk.proofs.aim.Tie as tie
 

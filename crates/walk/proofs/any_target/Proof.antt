@@ -9,7 +9,7 @@ use Rattle.semantics.specs.Steps.{each}
 use Rattle.semantics.specs.Numbers.{falseNumber}
 use Rattle.semantics.specs.Walk.{orTargetOf}
 use Rattle.terms.specs.Gives.{from, Leads}
-use Rattle.terms.proofs.Steps.{leads-start, each-end, each-stop, each-next}
+use Rattle.terms.proofs.Gives.{leads-start, each-end, each-stop, each-next}
 use Rattle.walk.specs.Leaves.{noLeaf}
 use Rattle.walk.proofs.any_target.Statement.{statement}
 use Rattle.walk.proofs.any_target.Tie as tie

@@ -1,6 +1,6 @@
 -- `walk::gather` meets its contract: the walk, and its leaves by value. Assumes nothing.
 use borrow.Author.Needs.{needs}
-use Rattle.walk.proofs.Laws.{walk-out}
+use Rattle.walk.proofs.Leaves.{walk-out}
 use Rattle.walk.proofs.gather.Statement.{statement}
 use Rattle.walk.proofs.gather.Tie as tie
 

@@ -1,6 +1,6 @@
 -- `walk::leaf` meets its contract: it follows the text of its definition. Assumes nothing.
 use borrow.Author.Needs.{needs}
-use Rattle.walk.proofs.Laws.{leaf-new, leaf-last}
+use Rattle.walk.proofs.Leaves.{leaf-new, leaf-last}
 use Rattle.walk.proofs.leaf.Statement.{statement}
 use Rattle.walk.proofs.leaf.Tie as tie
 

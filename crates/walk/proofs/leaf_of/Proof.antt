@@ -1,7 +1,7 @@
 -- `walk::leaf_of` meets its contract. Assumes nothing.
 use borrow.Author.Needs.{needs}
 use native.Mathlib.Omega.{arith}
-use Rattle.walk.proofs.Laws.{past-end}
+use Rattle.walk.proofs.Leaves.{past-end}
 use Rattle.walk.proofs.leaf_of.Statement.{statement}
 use Rattle.walk.proofs.leaf_of.Tie as tie
 

@@ -1,7 +1,7 @@
 -- `walk::or_target` meets its contract: it follows the text of its definition. Assumes nothing.
 use borrow.Author.Needs.{needs}
 use Rattle.semantics.specs.Walk.{orTargetOf}
-use Rattle.terms.proofs.Steps.{steps}
+use Rattle.terms.proofs.Gives.{steps}
 use Rattle.walk.proofs.or_target.Statement.{statement}
 use Rattle.walk.proofs.or_target.Tie as tie
 

@@ -2,7 +2,7 @@
 use borrow.Author.Needs.{needs}
 use native.Mathlib.Omega.{arith}
 use lib.ListN.{length-set}
-use Rattle.walk.proofs.Laws.{push-leaf}
+use Rattle.walk.proofs.Leaves.{push-leaf}
 use Rattle.walk.proofs.push.Statement.{statement}
 use Rattle.walk.proofs.push.Tie as tie
 

@@ -5,7 +5,7 @@ use Prim.Native.Nat.{_-_, _≤_}
 use lib.ListN.{length}
 use Rattle.terms.specs.Gives.{from}
 use Rattle.walk.specs.Leaves.{noLeaf, leavesIn}
-use Rattle.walk.proofs.Laws.{unpack-next, unpack-end}
+use Rattle.walk.proofs.Leaves.{unpack-next, unpack-end}
 use Rattle.walk.proofs.unpack.Statement.{statement}
 use Rattle.walk.proofs.unpack.Tie as tie
 

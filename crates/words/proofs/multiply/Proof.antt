@@ -1,7 +1,7 @@
 -- `words::multiply` meets its contract: the whole product fits twice the width. Assumes nothing.
 use borrow.Author.Needs.{needs}
 use Rattle.words.specs.Words.{width}
-use Rattle.words.proofs.Laws.{product-fits}
+use Rattle.words.proofs.Words.{product-fits}
 use Rattle.words.proofs.multiply.Statement.{statement}
 use Rattle.words.proofs.multiply.Tie as tie
 

@@ -1,6 +1,6 @@
 -- `merge::Carried::merging` meets its contract: it follows the text of its definition. Assumes nothing.
 use borrow.Author.Needs.{needs}
-use Rattle.terms.proofs.Steps.{steps}
+use Rattle.terms.proofs.Gives.{steps}
 use Rattle.merge.specs.Passes.{passStep}
 use Rattle.merge.proofs.Onward.{onward-stop, onward-start}
 use Rattle.merge.proofs.Carried.merging.Statement.{statement}

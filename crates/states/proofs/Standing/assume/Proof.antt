@@ -1,6 +1,6 @@
 -- `states::Standing::assume` meets its contract: it follows the text of its definition. Assumes nothing.
 use borrow.Author.Needs.{needs}
-use Rattle.terms.proofs.Steps.{steps}
+use Rattle.terms.proofs.Gives.{steps}
 use Rattle.semantics.specs.States.{assumeOf}
 use Rattle.states.proofs.Standing.assume.Statement.{statement}
 use Rattle.states.proofs.Standing.assume.Tie as tie

@@ -1,6 +1,6 @@
 -- `states::Standing::merge_asserted` meets its contract: it follows the text of its definition. Assumes nothing.
 use borrow.Author.Needs.{needs}
-use Rattle.terms.proofs.Steps.{steps}
+use Rattle.terms.proofs.Gives.{steps}
 use Rattle.semantics.specs.States.{mergeAssertedOf}
 use Rattle.states.proofs.Standing.merge_asserted.Statement.{statement}
 use Rattle.states.proofs.Standing.merge_asserted.Tie as tie

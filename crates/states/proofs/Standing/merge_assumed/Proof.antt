@@ -1,6 +1,6 @@
 -- `states::Standing::merge_assumed` meets its contract: it follows the text of its definition. Assumes nothing.
 use borrow.Author.Needs.{needs}
-use Rattle.terms.proofs.Steps.{steps}
+use Rattle.terms.proofs.Gives.{steps}
 use Rattle.semantics.specs.States.{mergeAssumedOf}
 use Rattle.states.proofs.Standing.merge_assumed.Statement.{statement}
 use Rattle.states.proofs.Standing.merge_assumed.Tie as tie

@@ -15,7 +15,7 @@ use Rattle.semantics.specs.Terms.{at, findOf, wellFormed}
 use Rattle.semantics.specs.Steps.{settingOf, roomOf, Got, gave, refused, Make, deeper, next, _>>=_, _▹_, give, refuse, reads, up, upOf, makeOf}
 use Rattle.typing.proofs.Grown.{Grown, still, more, grown-on, at-lower, at-newest}
 use Rattle.typing.proofs.Formed.{both, There, find-there}
-use Rattle.typing.proofs.Steps.{Lies, Fit, there-grown}
+use Rattle.typing.proofs.Does.{Lies, Fit, there-grown}
 
 -- ---- constants
 unfoldable pub isConstant : Term → Bool

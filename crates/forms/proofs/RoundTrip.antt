@@ -10,7 +10,7 @@ use lib.ListN.{getD, take, length, List·getD-append}
 use lib.Seq.{sets, take-suc, take-all, getD-append-add}
 use borrow.Author.Tests.{eq-eqb}
 use Rattle.words.specs.Words.{wordBytes, lowOf, highOf}
-use Rattle.words.proofs.Laws.{join-halves, one-field}
+use Rattle.words.proofs.Words.{join-halves, one-field}
 use Rattle.notation.specs.Notation.{bit, pick, if_then_else_}
 use Rattle.semantics.specs.declared.Input.{Input}
 use Rattle.semantics.specs.declared.Result.{Result}

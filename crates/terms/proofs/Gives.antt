@@ -15,15 +15,15 @@ use Rattle.semantics.specs.declared.Found.{Found}
 use Rattle.semantics.specs.Terms.{bytesOf, put, imageOf, termsIn}
 use Rattle.semantics.specs.Steps.{Got, gave, refused, Make, deeper, next, _>>=_, give, refuse, makeOf, each, up, upOf, reads, _▹_, roomOf}
 use Rattle.terms.specs.Search.{findAbove, codeSetting}
-use Rattle.terms.specs.Gives.{shown, Kept, Gives, Leads, from}
-use Rattle.terms.proofs.Laws.{terms-length, terms-same, tail-lent, tail-back}
+use Rattle.terms.specs.Gives.{shown, OnlyAppends, Gives, Leads, from}
+use Rattle.terms.proofs.Tables.{terms-length, terms-same, tail-lent, tail-back}
 use Rattle.terms.proofs.Put.{put-length, put-below, put-past, term-below, term-there}
 
-pub stays : (s : List ℕ) (n : ℕ) → Kept s n s n
+pub stays : (s : List ℕ) (n : ℕ) → OnlyAppends s n s n
 stays s n = record { long = refl; grows = omega arith; fits = λ f. f; whole = λ h. h; low = λ k h. refl; high = λ k h. refl }
 
-pub kept-on : {s y z : List ℕ} {n c e : ℕ} → Kept s n y c → Kept y c z e → Kept s n z e
-kept-on p q =
+pub appends-on : {s y z : List ℕ} {n c e : ℕ} → OnlyAppends s n y c → OnlyAppends y c z e → OnlyAppends s n z e
+appends-on p q =
     let g = p .grows in
     let h = q .grows in
     record {
@@ -77,7 +77,7 @@ module _ {A B : Type 0} (f : A → Make B) {m : Make A} {s : List ℕ} {n r c u 
   gives-on h {q} {e} {w} {b} {z} k d =
       record {
         is = rw (← g .is, eq-eqb _ _ h) (d ∙ ap (deeper u) (subst (λ (l : ℕ). shown q (termsIn z e) b w ≡ f a (codeSetting l) (termsIn y c)) (g .kept .long) (k .is)));
-        kept = kept-on (g .kept) (k .kept);
+        kept = appends-on (g .kept) (k .kept);
       }
 
 room-in : (n l : ℕ) → n < 8192 → n * 8 + 8 ≤ l → n < roomOf l
@@ -111,15 +111,15 @@ module _ (s : List ℕ) (n : ℕ) (t : Term) {f : Found} (e : f ≡ findAbove (t
     unfolding imageOf
     put-whole q = rw (put-length s n t l, newest, imageOf, terms-length s n) (ap (λ (x : List ℕ). put x n t) q)
 
-    put-kept : Kept s n (put s n t) (n + 1)
-    put-kept = record { long = put-length s n t l; grows = omega arith; fits = λ f. rw (put-length s n t l) (omega arith); whole = put-whole; low = put-below s n t l; high = λ k i. put-past s n t l k (omega arith) }
+    put-appends : OnlyAppends s n (put s n t) (n + 1)
+    put-appends = record { long = put-length s n t l; grows = omega arith; fits = λ f. rw (put-length s n t l) (omega arith); whole = put-whole; low = put-below s n t l; high = λ k i. put-past s n t l k (omega arith) }
 
     pub make-new : (y : List ℕ) → y ≡ bytesOf t ++ drop 8 (take (length s - n * 8) (drop (n * 8) s))
         → Gives (makeOf t) s n 0 (n + 1) 0 n (take (n * 8) s ++ (y ++ drop (length s - n * 8) (drop (n * 8) s)))
     unfolding makeOf put
     make-new y w =
         rw (tail-back s (n * 8) y, w, tail-lent s (n * 8))
-        (record { is = simp (sym e, h, terms-length s n, lt-ltb _ _ (room-in n (length s) m l), newest); kept = put-kept })
+        (record { is = simp (sym e, h, terms-length s n, lt-ltb _ _ (room-in n (length s) m l), newest); kept = put-appends })
 
 pub ruleset makes = (make-found, make-many, make-short, make-new)
 

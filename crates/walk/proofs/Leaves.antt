@@ -10,7 +10,7 @@ use Rattle.semantics.specs.declared.Term.{Term}
 use Rattle.semantics.specs.declared.Leaf.{Leaf}
 use Rattle.semantics.specs.Walk.{leafOf, nodeOf, walkOf}
 use Rattle.terms.specs.Gives.{Gives, from}
-use Rattle.terms.proofs.Steps.{steps, gives-value, gives-none, on-value, if-lt, if-ge}
+use Rattle.terms.proofs.Gives.{steps, gives-value, gives-none, on-value, if-lt, if-ge}
 use Rattle.walk.specs.Leaves.{noLeaf, leafAt, leavesIn}
 use Rattle.walk.proofs.Arrays.{from-push}
 

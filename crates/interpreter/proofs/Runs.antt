@@ -19,16 +19,16 @@ use Rattle.semantics.specs.PlainRun.{Stored, ended, full, Storing, onward, taki
 use Rattle.interpreter.specs.declared.Held.{Held}
 use Rattle.interpreter.specs.declared.Ran.{Ran}
 use Rattle.interpreter.specs.Store.{valueOf, chainIn, linkOf, valueIn, shown, nothing, storedBy, valueEnd, abortEnd, errorEnd, spentEnd, fullEnd}
-use Rattle.interpreter.specs.Promise.{put, bound, Found, Kept, runIn, underIn, Runs}
+use Rattle.interpreter.specs.Promise.{put, bound, Found, StoreKept, runIn, underIn, Runs}
 use Rattle.interpreter.proofs.Bytes.{put-kept}
 use Rattle.interpreter.proofs.Sorts.{cases, of-truth, of-word, of-procedure, of-none, word-test, procedure-test}
 use Rattle.interpreter.proofs.Chains.{chain-same, chain-put, value-shown}
 
 -- ---- the frame
-pub kept-still : (s : List ℕ) (k : ℕ) → Kept s k s k
+pub kept-still : (s : List ℕ) (k : ℕ) → StoreKept s k s k
 kept-still s k = record { grows = omega arith; long = refl; same = λ i h. refl }
 
-kept-on : {s y z : List ℕ} {k n m : ℕ} → Kept s k y n → Kept y n z m → Kept s k z m
+kept-on : {s y z : List ℕ} {k n m : ℕ} → StoreKept s k y n → StoreKept y n z m → StoreKept s k z m
 kept-on g h =
     record {
       grows = let a = g .grows in let b = h .grows in omega arith;
@@ -149,7 +149,7 @@ module _ (s rule : List ℕ) (d i : ℕ) (v : Held) (e k : ℕ) (l : linkOf v �
   take-place w p {y} q r =
       let room-left : k < placesIn (length s) = rw w at p in
       let room : 8 * k + 8 ≤ length s = omega arith in
-      let kept : Kept s k y (k + 1) = rw q (put-kept s k (bound v e) room) in
+      let kept : StoreKept s k y (k + 1) = rw q (put-kept s k (bound v e) room) in
       let chain : chainIn y (k + 1) ≡ binding (valueIn s v) (chainIn s e) = rw q (chain-put s k v e room l h) in
       record {
         is = r .is ∙ rw (kept .long, chain, add-one k, lt-ltb _ _ room-left);

@@ -17,7 +17,7 @@ use Rattle.semantics.specs.Opening.{inputTaken, inputTerm}
 use Rattle.semantics.proofs.Every.{every-all, every-miss}
 use Rattle.terms.specs.Gives.{from, Gives}
 use Rattle.terms.proofs.Arrays.{from-all}
-use Rattle.terms.proofs.Steps.{gives-value, then-stop, then-on}
+use Rattle.terms.proofs.Gives.{gives-value, then-stop, then-on}
 use Rattle.opening.specs.Openings.{noInput, openFrom}
 
 pub no-input : (xs : List Input) (i : ℕ) → length xs ≤ i → noInput ≡ getD xs i noInput

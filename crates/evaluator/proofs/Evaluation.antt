@@ -12,7 +12,7 @@ use Rattle.semantics.specs.Steps.{up}
 use Rattle.semantics.specs.Merge.{branchOf}
 use Rattle.semantics.specs.Evaluation.{Run, applyOf, targetOf, liveOf, evalOf}
 use Rattle.terms.specs.Gives.{Gives, from}
-use Rattle.terms.proofs.Steps.{steps, if-eq, if-ne, gives-value, gives-none, then-map}
+use Rattle.terms.proofs.Gives.{steps, if-eq, if-ne, gives-value, gives-none, then-map}
 use Rattle.walk.proofs.Arrays.{from-push}
 use Rattle.merge.specs.Branches.{noBranch}
 
