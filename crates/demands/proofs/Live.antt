@@ -225,7 +225,7 @@ module _ (xs : List Input) (sixteen : length xs ≡ inputCount) (good : every in
             state = answered-state w u (h .result);
             halts = answered-halted w u (h .result);
             last = λ i. refl;
-            constant = λ i. d .step .con (live .constant i);
+            constant = λ i. d .step .keeps (live .constant i);
           }
 
       live-again : x .halted ≡ true → Live (record {

@@ -21,7 +21,7 @@ use Rattle.semantics.specs.Fits.{fitsOf}
 use Rattle.semantics.specs.Answers.{answerOf}
 use Rattle.semantics.specs.Evaluate.{refusedBy, haltedAgain, left, evaluated, badDepth, evaluateOf}
 use Rattle.typing.proofs.Does.{Post, did, not-did}
-use Rattle.typing.proofs.Evaluation.{eval-does}
+use Rattle.soundness.proofs.Evaluation.{eval-does}
 use Rattle.sessions.proofs.Facts.{fitting}
 use Rattle.typing.proofs.Ruled.{ruled}
 use Rattle.print.specs.Room.{Told}
@@ -53,9 +53,9 @@ module _ (rule : List ℕ) (allowance : ℕ) (x : Session) (s : List ℕ) (n : l
         let q = fitting x s n h in
         go _ _ (eval-does (length s) (x .accepted) rule (ruled rule r) allowance (termsIn s (x .count)) 0 (opening (x .inputs) .environment) (x .state) (q .fit) (q .environment) (q .state) .post)
       where
-        go : {m : ℕ} {ts : List Term} {Q : List Term → Result → Type 0} (w y : Got Result) → Post m ts Q w y → Fine (left x s y)
-        go w y (did {us = us} {a = a} {u = u} g f q) = answer-told a u (length us) (f .short)
-        go w y not-did = refused-fine _
+        go : {K : List Term → Type 0} {m : ℕ} {ts : List Term} {Q : List Term → Result → Type 0} {N : ℕ → Type 0} (w y : Got Result) → Post K m ts Q N w y → Fine (left x s y)
+        go w y (did {us = us} {a = a} {u = u} g q) = answer-told a u (length us) (g .fit .short)
+        go w y (not-did _) = refused-fine _
 
     accepted-fine : (k : ℕ) → ruleRefusalOf rule ≡ k → Fine ((if 0 below k then refusedBy k else if badDepth allowance then refusedBy badAllowance else
         if leb ruleLimit (x .accepted) then refusedBy rulesSpent else if x .halted then haltedAgain else evaluated rule allowance) x s)

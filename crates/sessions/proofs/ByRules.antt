@@ -1,6 +1,6 @@
 -- An evaluation by the code, from a session and a table that fit, is document 01's: the answer, the session then and every byte of the table.
 -- Assumes nothing.
-use mathlib.Core.Path.{_≡_, refl, ap, _∙_}
+use mathlib.Core.Path.{_≡_, ap, _∙_}
 use mathlib.Core.Bool.{true}
 use mathlib.Core.List.{List}
 use Prim.Native.Nat.{ℕ, _*_, _<_}
@@ -14,7 +14,7 @@ use Rattle.semantics.specs.declared.Answer.the-variants.{Refused}
 use Rattle.semantics.specs.declared.Evaluated.{Evaluated}
 use Rattle.semantics.specs.Rules.{ruleRefusalOf}
 use Rattle.semantics.specs.Terms.{termsIn, imageOf}
-use Rattle.semantics.specs.Steps.{Got, settingOf}
+use Rattle.semantics.specs.Steps.{settingOf}
 use Rattle.semantics.specs.Opening.{opening}
 use Rattle.semantics.specs.Evaluation.{evalOf}
 use Rattle.semantics.specs.Fits.{fitsOf}
@@ -26,14 +26,10 @@ use Rattle.terms.proofs.Tables.{terms-length}
 use Rattle.terms.proofs.Wiped.{restored}
 use Rattle.terms.proofs.Image.{image-whole}
 use Rattle.typing.proofs.Ruled.{ruled}
-use Rattle.typing.proofs.Does.{Post, did, not-did}
-use Rattle.typing.proofs.Evaluation.{eval-does}
+use Rattle.typing.proofs.Does.{does-same}
+use Rattle.soundness.proofs.Evaluation.{eval-does}
 use Rattle.sessions.specs.Entered.{Enters}
 use Rattle.sessions.proofs.Facts.{Fitting, fitting}
-
-post-same : {A : Type 0} {n : ℕ} {ts : List Term} {Q : List Term → A → Type 0} (x y : Got A) → Post n ts Q x y → x ≡ y
-post-same x y (did g f q) = refl
-post-same x y not-did = refl
 
 module _ (x : Session) (s rule : List ℕ) (allowance : ℕ) (h : fitsOf x s ≡ true) (r : ruleRefusalOf rule ≡ 0) {e : ℕ} (en : Enters (x .inputs) e)
     (byte : (k : ℕ) → getD s k 0 < 256) {k c u : ℕ} {v : Result} {y : List ℕ} (g : Gives (evalOf rule (x .accepted) allowance 0 e (x .state)) s (x .count) k c u v y) where
@@ -49,7 +45,7 @@ module _ (x : Session) (s rule : List ℕ) (allowance : ℕ) (h : fitsOf x s ≡
       let q = facts in
       let i = en .is (q .taken) in
       g .is ∙ (ap (λ (m : ℕ). evalOf rule (x .accepted) allowance 0 m (x .state) (codeSetting (length s)) ts) i
-      ∙ post-same _ _ (eval-does (length s) (x .accepted) rule (ruled rule r) allowance ts 0 (opening (x .inputs) .environment) (x .state) (q .fit) (q .environment) (q .state) .post))
+      ∙ does-same (eval-does (length s) (x .accepted) rule (ruled rule r) allowance ts 0 (opening (x .inputs) .environment) (x .state) (q .fit) (q .environment) (q .state)))
 
   pub evaluated-out : k ≡ 0 → {w : Answer} → w ≡ answerOf v u → {t : Session} → t ≡ advanced x c v → _≡_ {A = Evaluated × List ℕ} (record { answer = w; session = t }, y) (evaluated rule allowance x s)
   unfolding evaluated

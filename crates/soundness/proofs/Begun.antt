@@ -1,6 +1,6 @@
 -- What an opening leaves: under any sixteen numbers, the binding that it gives means the inputs as the concrete run binds them. Assumes nothing.
 use mathlib.Core.Path.{_≡_, refl, sym, ap, subst, _∙_}
-use mathlib.Core.Bool.{Bool, true, false, not, or-true}
+use mathlib.Core.Bool.{Bool, true, false, or-true}
 use mathlib.Core.List.{List, [], _∷_}
 use Prim.Native.Nat.{ℕ, suc, _+_, _<_, _≤_}
 use native.Mathlib.Omega.{arith}
@@ -19,11 +19,15 @@ use Rattle.semantics.specs.Run.{Value, truth, word, binding, none, inputValue, 
 use Rattle.semantics.proofs.Fields.{high-unused}
 use Rattle.typing.proofs.Grown.{Grown, still, Value as Named, value-grown, value-of, binding-named}
 use Rattle.typing.proofs.Formed.{There}
-use Rattle.typing.proofs.Does.{Lies, Fit, Post, did, not-did, Does, does-give, does-then, does-map, does-weaken, does-make}
+use Rattle.typing.proofs.Does.{Lies, Fit, Post, did, not-did, DoesKeeping, does-give, does-then, does-map, does-weaken, does-make}
 use Rattle.typing.proofs.Factory.{there-sort, binding-sort}
 use Rattle.soundness.proofs.Means.{termMeaning, meaning, meaning-grown, meaning-past}
 use Rattle.soundness.proofs.BySort.{there-means, means-binding}
 use Rattle.soundness.proofs.Held.{MeansValue, MeansBindings}
+
+-- An opening may make free inputs, so that a table of constants does not stay one: of the table nothing more is asked, and nothing of a refusal.
+abbrev Nothing : {A : Type 0} → A → Type 0
+Nothing a = Unit {0}
 
 is-grown : {ns : List ℕ} {ts us : List Term} {v : Value} {x : ℕ} → Grown ts us → MeansValue ns v ts x → MeansValue ns v us x
 is-grown {ns} {x = x} g h = record { named = value-grown g (h .named); is = meaning-grown ns x g (h .named .low) ∙ h .is }
@@ -98,27 +102,27 @@ module _ {n : ℕ} {ns : List ℕ} where
   tail-means {x = x} f g (tail-on k) = meaning-grown ns x g (k .sort .low) ∙ k .is
 
 module _ {l n : ℕ} {ns : List ℕ} where
-  input-does : {ts : List Term} (i : ℕ) (x : Input) → Fit n ts → i < inputCount → Does l n (makeOf (inputTerm i x)) ts (MeansValue ns (inputValue x (getD ns i 0)))
+  input-does : {ts : List Term} (i : ℕ) (x : Input) → Fit n ts → i < inputCount → DoesKeeping Nothing l n (makeOf (inputTerm i x)) ts (MeansValue ns (inputValue x (getD ns i 0))) Nothing
   input-does {ts} i x f k =
       let m = makes-input n ns i x k in
-      does-weaken (λ us a g j t. record { named = m .named us a t; is = there-means ns j t ∙ m .means (meaning ns us) }) (does-make f (record { is = m .lies ts }))
+      does-weaken f (λ us a g t. record { named = m .named us a t; is = there-means ns (g .fit) t ∙ m .means (meaning ns us) }) (does-make tt f (record { is = m .lies ts }) (λ _. tt))
 
   inputs-does : {ts : List Term} (i : ℕ) (xs : List Input) → Fit n ts → i + length xs ≤ inputCount
-      → Does l n (inputsOf i xs) ts (Ins ns (valuesOf ns i xs))
+      → DoesKeeping Nothing l n (inputsOf i xs) ts (Ins ns (valuesOf ns i xs)) Nothing
   unfolding inputsOf
   inputs-does i [] f k = does-give [] f no-in
   inputs-does i (x ∷ xs) f k =
-      does-then (input-does i x f (omega arith)) (λ us v g j r. does-map _ (inputs-does (suc i) xs j (omega arith)) (λ ws vs u w z. also-in (is-grown u r) z))
+      does-then (input-does i x f (omega arith)) (λ us v g r. does-map _ (inputs-does (suc i) xs (g .fit) (omega arith)) (λ ws vs u z. also-in (is-grown (u .grown) r) z))
 
-  chain-does : {ts us : List Term} {ws : List Value} {vs : List ℕ} → Grown ts us → Fit n us → Ins ns ws ts vs → Does l n (chainOf vs) us (Tail ns (chained ws))
+  chain-does : {ts us : List Term} {ws : List Value} {vs : List ℕ} → Grown ts us → Fit n us → Ins ns ws ts vs → DoesKeeping Nothing l n (chainOf vs) us (Tail ns (chained ws)) Nothing
   unfolding chainOf
   chain-does g f no-in = does-give _ f (tail-end refl)
   chain-does g f (also-in {x = v} h r) =
-      does-then (chain-does g f r) (λ ys e p j k.
-      does-weaken (λ zs a q o t. tail-on (record {
+      does-then (chain-does g f r) (λ ys e p k.
+      does-weaken (p .fit) (λ zs a q t. tail-on (record {
         sort = there-sort bindingTerm (binding-sort v e) t;
-        is = there-means ns o t ∙ (means-binding ns (meaning ns zs) (term bindingTerm 0 v e 0) refl ∙ rw (is-grown q (is-grown p (is-grown g h)) .is, tail-means o q k));
-      })) (does-make j (tail-laid (is-grown p (is-grown g h)) k)))
+        is = there-means ns (q .fit) t ∙ (means-binding ns (meaning ns zs) (term bindingTerm 0 v e 0) refl ∙ rw (is-grown (q .grown) (is-grown (p .grown) (is-grown g h)) .is, tail-means (q .fit) (q .grown) k));
+      })) (does-make tt (p .fit) (tail-laid (is-grown (p .grown) (is-grown g h)) k) (λ _. tt)))
 
 chained-inputs : (ns : List ℕ) (i : ℕ) (xs : List Input) (ms : List ℕ) → length xs ≤ length ms → ((j : ℕ) → getD ms j 0 ≡ getD ns (i + j) 0)
     → chained (valuesOf ns i xs) ≡ inputsBound xs ms
@@ -158,7 +162,7 @@ pub record Opens (n : ℕ) (ns : List ℕ) (v : Value) (ts : List Term) (e : ℕ
 pub opening-means : {n : ℕ} (ns : List ℕ) (xs : List Input) → length xs ≡ inputCount → inputCount ≤ length ns
     → {ts : List Term} {e u : ℕ} → openingOf xs (settingOf mostTable) [] ≡ gave ts e u → Opens n ns (inputsBound xs ns) ts e
 opening-means {n} ns xs l m {ts} {e} {u} q =
-    go _ _ (does-then (inputs-does {l = mostTable} {n = n} {ns = ns} 0 xs (constants-fit n) (omega arith)) (λ us vs g f r. chain-does still f r) .post)
+    go _ _ (does-then (inputs-does {l = mostTable} {n = n} {ns = ns} 0 xs (constants-fit n) (omega arith)) (λ us vs g r. chain-does still (g .fit) r) .post)
     (sym (from-constants xs) ∙ q)
   where
     not-none : (xs : List Input) → length xs ≡ inputCount → chained (valuesOf ns 0 xs) ≡ none → ⊥
@@ -171,9 +175,9 @@ opening-means {n} ns xs l m {ts} {e} {u} q =
         left : (j : ℕ) → j ≡ 0 + j
         left j = omega arith
 
-    go : (x y : Got ℕ) → Post n constants (Tail ns (chained (valuesOf ns 0 xs))) x y → deeper 0 (deeper 0 y) ≡ gave ts e u → Opens n ns (inputsBound xs ns) ts e
-    go x y (did {us = us} {a = a} g f t) z =
+    go : (x y : Got ℕ) → Post Nothing n constants (Tail ns (chained (valuesOf ns 0 xs))) Nothing x y → deeper 0 (deeper 0 y) ≡ gave ts e u → Opens n ns (inputsBound xs ns) ts e
+    go x y (did {us = us} {a = a} g t) z =
         let i : us ≡ ts = cc in let j : a ≡ e = cc in
         subst (λ b. Opens n ns (inputsBound xs ns) ts b) j (subst (λ vs. Opens n ns (inputsBound xs ns) vs a) i
-        (record { fit = f; environment = subst (λ v. MeansBindings ns v us a) values-are (tail-bindings (not-none xs l) t) }))
-    go x y not-did z = let w : _≡_ {A = ℕ} 0 1 = cc in absurd (omega arith)
+        (record { fit = g .fit; environment = subst (λ v. MeansBindings ns v us a) values-are (tail-bindings (not-none xs l) t) }))
+    go x y (not-did _) z = let w : _≡_ {A = ℕ} 0 1 = cc in absurd (omega arith)

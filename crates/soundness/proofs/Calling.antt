@@ -19,9 +19,9 @@ use Rattle.semantics.specs.Evaluation.{Run, underOf, applyOf, targetOf, targets
 use Rattle.semantics.specs.Run.{Value, truth, word, procedure, binding, none, gives, errs, Running, isAProcedure, callRun}
 use Rattle.typing.proofs.Grown.{Sort, sort-grown}
 use Rattle.typing.proofs.Formed.{never, Laid, laid-at, procedure-names}
-use Rattle.typing.proofs.Does.{Fit}
+use Rattle.typing.proofs.Does.{Fit, stay, step-on, does-give, does-then, does-map, does-weaken, does-read, does-with, does-if, does-eq, does-refused}
 use Rattle.soundness.proofs.Means.{termMeaning, meaning}
-use Rattle.soundness.proofs.Constants.{Const, Step, stay, step-on, Does, does-give, does-then, does-map, does-weaken, does-read, does-with, does-if, does-eq, does-refused}
+use Rattle.soundness.proofs.Constants.{Const, Step, Does}
 use Rattle.soundness.proofs.BySort.{means-at, means-procedure, choice-kind, procedure-kind}
 use Rattle.soundness.proofs.Held.{MeansTruth, MeansValue, MeansBindings, truth-step, value-step, bindings-step, false-means, true-means}
 use Rattle.soundness.proofs.Factory.{or-does, binding-does, no-procedure}
@@ -142,9 +142,9 @@ module _ {l n : ℕ} {ns : List ℕ} {run : Run} {rn : ℕ → Running} (rule : 
       deep : {ws : List Term} → Step n top ws → (j : ℕ) → Spends ws (assumed s t g) t (rn (recordAt rule (y .term .a) .p) (binding u (meaning ns ts (y .term .b)))) j
           → Spends top s₀ t₀ (callRun rn rule v u) j
       deep d j i = record {
-        runs-out = λ e o _. let gt = c .live (z .con o) in
-            ap (λ a. callRun rn rule a u) (target-is (z .fit) c k gt) ∙ (call-procedure rn rule _ _ u ∙ i .runs-out e (d .con o) (assumed-live s t g (nc o) gt));
-        not-wide = λ e o _. i .not-wide e (d .con o) (assumed-live s t g (nc o) (c .live (z .con o)));
+        runs-out = λ e o _. let gt = c .live (z .keeps o) in
+            ap (λ a. callRun rn rule a u) (target-is (z .fit) c k gt) ∙ (call-procedure rn rule _ _ u ∙ i .runs-out e (d .keeps o) (assumed-live s t g (nc o) gt));
+        not-wide = λ e o _. i .not-wide e (d .keeps o) (assumed-live s t g (nc o) (c .live (z .keeps o)));
       }
 
   -- each target in turn
@@ -204,7 +204,7 @@ module _ {l n : ℕ} {ns : List ℕ} {run : Run} {rn : ℕ → Running} (rule : 
       does-then (aim-does u fit state hf) (λ us m p hm. does-read _ _ (does-if _
       (λ i. let d = stops-dead (p .fit) (hm .state) i in
       does-give _ (p .fit) (sim-halt (p .fit) (hm .state) d (λ w. on-off s (asserted s t (isAProcedure v)) (gives w) (callRun rn rule v u) d ∙ as-run)))
-      (λ i. does-then (targets-does [] [] p (stay (p .fit)) (hm .state) (value-step p hu) (λ c. runs-live (p .fit) (hm .state) i (p .con c)) (hm .leaves) no-branch) (λ ws bs q hb.
+      (λ i. does-then (targets-does [] [] p (stay (p .fit)) (hm .state) (value-step p hu) (λ c. runs-live (p .fit) (hm .state) i (p .keeps c)) (hm .leaves) no-branch) (λ ws bs q hb.
       does-weaken (q .fit) (λ xs r w hr. sim-as as-run hr)
       (merge-does full (callRun rn rule v u) (q .fit) (state-step q (hm .state)) (hb .branches) (λ e. hb .covers ∙ rw (hm .some, asserted-live s t (isAProcedure v) e)))))))
     where

@@ -18,10 +18,10 @@ use Rattle.semantics.specs.States.{outOf}
 use Rattle.semantics.specs.Evaluation.{Run, placeOf, datumOf, procedureOf, abortOf, errorOf, wordsOf, operationOf, testOf, operatorOf, secondOf, underOf, letOf, Fork, forkOf, branchesOf, bothOf, ifOf}
 use Rattle.semantics.specs.Run.{Value, truth, word, procedure, binding, Ended, gives, aborts, errs, spends, Running, after, isFalse, isAWord, isAProcedure, wordIn, operationValue, wordsRun, operatorRun, datumValue}
 use Rattle.typing.proofs.Formed.{never}
-use Rattle.typing.proofs.Does.{Fit}
+use Rattle.typing.proofs.Does.{Fit, stay, step-on, does-give, does-then, does-map, does-weaken, does-read, does-with, does-if, does-eq, does-below, does-refused}
 use Rattle.typing.proofs.Factory.{Operands, operands-grown}
 use Rattle.soundness.proofs.Means.{operatorMeaning}
-use Rattle.soundness.proofs.Constants.{Const, const-back, Step, stay, step-on, Does, does-give, does-then, does-map, does-weaken, does-read, does-with, does-if, does-eq, does-below, does-refused}
+use Rattle.soundness.proofs.Constants.{Const, const-back, Step, Does}
 use Rattle.soundness.proofs.Held.{MeansTruth, MeansValue, MeansBindings, truth-step, value-step, bindings-step, truth-is-value, false-means, true-means, known-is-false, known-is-true, unknown}
 use Rattle.soundness.proofs.Factory.{not-does, and-does, truth-does, is-word-does, is-procedure-does, word-does, procedure-does, binding-does}
 use Rattle.soundness.proofs.Operate.{one-value, operator-words, Second, second-step, operator-does}
@@ -37,7 +37,7 @@ pub record Entry (n : ℕ) (ns : List ℕ) (ts : List Term) (e : ℕ) (x : State
 
 -- a refusal further on is one from here
 pub spends-back : {n : ℕ} {ts us : List Term} {s t : Bool} {o : Ended} {k : ℕ} → Step n ts us → Spends us s t o k → Spends ts s t o k
-spends-back p h = record { runs-out = λ i c l. h .runs-out i (p .con c) l; not-wide = λ i c l. h .not-wide i (p .con c) l }
+spends-back p h = record { runs-out = λ i c l. h .runs-out i (p .keeps c) l; not-wide = λ i c l. h .not-wide i (p .keeps c) l }
 
 assumed-false : (s t : Bool) → (assumed s t false && t) ≡ false
 assumed-false true true = refl
@@ -293,10 +293,10 @@ module _ {l n : ℕ} {ns : List ℕ} {ts : List Term} {e : ℕ} {x : State} {s t
             → (k : ℕ) → Spends ws (h .s) (h .t) (K (h .v)) k → Spends ts s t (after (rn p E) K) k
         further h i z y k m = record {
           runs-out = λ j c o.
-              let d = z .con c in
+              let d = z .keeps c in
               let a = h .live i d in
-              ends-same (sym (on-live s t (after (rn p E) K) o) ∙ (sym (let-next p q h) ∙ (on-live (h .s) (h .t) (K (h .v)) a ∙ ap ends (m .runs-out j (y .con d) a))));
-          not-wide = λ j c o. m .not-wide j (y .con (z .con c)) (h .live i (z .con c));
+              ends-same (sym (on-live s t (after (rn p E) K) o) ∙ (sym (let-next p q h) ∙ (on-live (h .s) (h .t) (K (h .v)) a ∙ ap ends (m .runs-out j (y .keeps d) a))));
+          not-wide = λ j c o. m .not-wide j (y .keeps (z .keeps c)) (h .live i (z .keeps c));
         }
 
     -- If: both branches, where the test is not known.
@@ -330,7 +330,7 @@ module _ {l n : ℕ} {ns : List ℕ} {ts : List Term} {e : ℕ} {x : State} {s t
         Ran = Branches ns (on s t (pick b (rn q E) (rn r E))) true
 
         none-const : {o : Ended} {ws : List Term} {s′ t′ : Bool} (k : ℕ) → Spends ws s′ t′ o k → Spends ts s t (pick b (rn q E) (rn r E)) k
-        none-const k _ = record { runs-out = λ i c l. absurd (mixed (z .con c)); not-wide = λ i c l. mixed (z .con c) }
+        none-const k _ = record { runs-out = λ i c l. absurd (mixed (z .keeps c)); not-wide = λ i c l. mixed (z .keeps c) }
 
         cover : (b : Bool) → (b || (not b || false)) ≡ true
         cover true = refl

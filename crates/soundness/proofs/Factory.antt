@@ -3,65 +3,25 @@ use mathlib.Core.Path.{_≡_, refl, sym, ap, _∙_}
 use mathlib.Core.Bool.{Bool, true, false, not, _&&_, _||_, and-true, and-false, or-true, or-false}
 use mathlib.Core.List.{List}
 use Prim.Native.Nat.{ℕ, _<_}
-use lib.Dec.{eqb}
-use borrow.Author.Tests.{eqb-true, eqb-false, ne-eqb, lt-ltb}
 use Rattle.words.proofs.Words.{join-halves}
-use Rattle.notation.specs.Notation.{pick, if_then_else_, if_equals_then_else_, if_below_then_else_}
-use Rattle.operators.specs.Operators.{operandsOf, givesTruthOf, rowOf}
+use Rattle.notation.specs.Notation.{pick, if_equals_then_else_, if_below_then_else_}
+use Rattle.operators.specs.Operators.{givesTruthOf}
 use Rattle.semantics.specs.declared.Term.{Term}
 use Rattle.semantics.specs.Numbers.{truthTerm, wordTerm, operatorTerm, choiceTerm, procedureTerm, bindingTerm, isWordCode, isProcedureCode, negationCode, conjunctionCode, disjunctionCode, truthCode, recordLimit, tableFull}
-use Rattle.semantics.specs.Terms.{term, wordTermOf, at, sortOf, namesValue, operandsLaidOut, laidOut}
+use Rattle.semantics.specs.Terms.{term, wordTermOf, at, sortOf}
 use Rattle.semantics.specs.Steps.{makeOf}
 use Rattle.semantics.specs.Factory.{notOf, andOf, orOf, impliesOf, choiceOf, truthOf, isWordOf, isProcedureOf}
 use Rattle.semantics.specs.Run.{Value, truth, word, procedure, binding, isFalse, isAWord, isAProcedure}
-use Rattle.typing.proofs.Grown.{Sort, Value as Named, value-of, sort-at, truth-named, choice-named}
-use Rattle.typing.proofs.Formed.{never, There}
-use Rattle.typing.proofs.Does.{Lies, Fit}
-use Rattle.typing.proofs.Factory.{there-sort, laid-word, laid-binding, laid-procedure, Operands, procedure-sort, binding-sort}
+use Rattle.typing.proofs.Grown.{Sort, Value as Named, value-of, sort-at}
+use Rattle.typing.proofs.Formed.{never}
+use Rattle.typing.proofs.Does.{Lies, Fit, does-give, does-then, does-weaken, does-read, does-eq}
+use Rattle.typing.proofs.Factory.{there-sort, laid-not, laid-and, laid-or, laid-truth, laid-is-word, laid-is-procedure, laid-choice, laid-word, laid-binding, laid-procedure, formula, word-sort, choice-sort, procedure-sort, binding-sort, gives-not, gives-and, gives-or, gives-truth, gives-is-word, gives-is-procedure}
 use Rattle.soundness.proofs.Means.{isTrue, isProper, operatorMeaning, termMeaning, meaning}
-use Rattle.soundness.proofs.Constants.{isConstant, Const, const-at, Step, Does, does-give, does-then, does-weaken, does-read, does-eq, does-make}
+use Rattle.soundness.proofs.Constants.{isConstant, Const, const-at, Step, Does, does-make-constant}
 use Rattle.soundness.proofs.BySort.{Kind, constant-truth, constant-word, free-truth, free-word, truth-operator, word-operator, a-choice, a-procedure, a-binding, no-kind, kind-of, means-word, means-choice, means-procedure, means-binding, there-means, truth-means, word-means, procedure-means, choice-kind}
 use Rattle.soundness.proofs.Held.{MeansTruth, MeansValue, MeansBindings, truth-step, value-step, bindings-step, is-proper, false-means, true-means, known-is-false, known-is-true, unknown, named-some, named-other}
 
--- ---- terms that are laid out
-module _ {n : ℕ} {ts : List Term} where
-  laid-not : {x : ℕ} → Sort truthTerm ts x → Lies n ts (term operatorTerm negationCode x 0 0)
-  unfolding laidOut operandsLaidOut if_equals_then_else_ if_below_then_else_
-  laid-not h = record { is = rw (truth-named h) }
-
-  laid-and : {x y : ℕ} → Sort truthTerm ts x → Sort truthTerm ts y → Lies n ts (term operatorTerm conjunctionCode x y 0)
-  unfolding laidOut operandsLaidOut if_equals_then_else_ if_below_then_else_
-  laid-and h k = record { is = rw (truth-named h, truth-named k) }
-
-  laid-or : {x y : ℕ} → Sort truthTerm ts x → Sort truthTerm ts y → Lies n ts (term operatorTerm disjunctionCode x y 0)
-  unfolding laidOut operandsLaidOut if_equals_then_else_ if_below_then_else_
-  laid-or h k = record { is = rw (truth-named h, truth-named k) }
-
-  laid-truth : {x : ℕ} → Sort choiceTerm ts x → Lies n ts (term operatorTerm truthCode x 0 0)
-  unfolding laidOut operandsLaidOut if_equals_then_else_ if_below_then_else_
-  laid-truth h = record { is = rw (choice-named h) }
-
-  laid-is-word : {x : ℕ} → Sort choiceTerm ts x → Lies n ts (term operatorTerm isWordCode x 0 0)
-  unfolding laidOut operandsLaidOut if_equals_then_else_ if_below_then_else_
-  laid-is-word h = record { is = rw (choice-named h) }
-
-  laid-is-procedure : {x : ℕ} → Sort choiceTerm ts x → Lies n ts (term operatorTerm isProcedureCode x 0 0)
-  unfolding laidOut operandsLaidOut if_equals_then_else_ if_below_then_else_
-  laid-is-procedure h = record { is = rw (choice-named h) }
-
-  laid-choice : {g x y : ℕ} → Sort truthTerm ts g → Named ts x → Named ts y → Lies n ts (term choiceTerm 0 g x y)
-  unfolding laidOut if_equals_then_else_
-  laid-choice h k i = record { is = rw (truth-named h, k .is, i .is) }
-
-pub laid-operator : {n : ℕ} {ts : List Term} {op a b : ℕ} → Operands ts op a b → Lies n ts (term operatorTerm op a b 0)
-unfolding laidOut operandsLaidOut if_equals_then_else_ if_below_then_else_
-laid-operator {n} {ts} {op} {a} {b} h = record { is = rw (ne-eqb _ _ (h .some), lt-ltb _ _ (h .few), h .first .is) (go (eqb (operandsOf op) 1) refl) }
-  where
-    go : (c : Bool) → eqb (operandsOf op) 1 ≡ c → (pick c (eqb b 0) (namesValue ts b) && true) ≡ true
-    go true e = rw (h .alone (eqb-true _ _ e))
-    go false e = rw (h .second (eqb-false _ _ e) .is)
-
--- ---- the meanings of terms that are made
+-- the meanings of terms that are made
 module _ (ns : List ℕ) (f : ℕ → Value) where
   mean-not : (x : ℕ) {b : Bool} → f x ≡ truth b → termMeaning ns f (term operatorTerm negationCode x 0 0) ≡ truth (not b)
   unfolding termMeaning operatorMeaning if_equals_then_else_ if_below_then_else_
@@ -93,51 +53,6 @@ module _ (ns : List ℕ) (f : ℕ → Value) where
   pub mean-operator : (op x y : ℕ) {v w : Value} → f x ≡ v → f y ≡ w → termMeaning ns f (term operatorTerm op x y 0) ≡ operatorMeaning op v w
   unfolding termMeaning if_equals_then_else_
   mean-operator op x y h k = rw (h, k)
-
--- ---- their sorts
-formula : (op a b : ℕ) → givesTruthOf op ≡ true → sortOf (term operatorTerm op a b 0) ≡ truthTerm
-unfolding sortOf if_equals_then_else_ if_then_else_
-formula op a b e = rw e
-
-pub operator-named : {ts : List Term} {x op a b : ℕ} → There (term operatorTerm op a b 0) ts x → Named ts x
-unfolding sortOf if_equals_then_else_ if_then_else_
-operator-named {ts} {x} {op} h = go (givesTruthOf op) refl
-  where
-    go : (c : Bool) → givesTruthOf op ≡ c → Named ts x
-    go true e = value-of truthTerm refl refl (there-sort truthTerm (rw e) h)
-    go false e = value-of wordTerm refl refl (there-sort wordTerm (rw e) h)
-
-word-sort : (w : ℕ) → sortOf (wordTermOf w) ≡ wordTerm
-unfolding sortOf if_equals_then_else_
-word-sort w = refl
-
-choice-sort : (g x y : ℕ) → sortOf (term choiceTerm 0 g x y) ≡ choiceTerm
-unfolding sortOf if_equals_then_else_
-choice-sort g x y = refl
-
-gives-not : givesTruthOf negationCode ≡ true
-unfolding givesTruthOf rowOf
-gives-not = refl
-
-gives-and : givesTruthOf conjunctionCode ≡ true
-unfolding givesTruthOf rowOf
-gives-and = refl
-
-gives-or : givesTruthOf disjunctionCode ≡ true
-unfolding givesTruthOf rowOf
-gives-or = refl
-
-gives-truth : givesTruthOf truthCode ≡ true
-unfolding givesTruthOf rowOf
-gives-truth = refl
-
-gives-is-word : givesTruthOf isWordCode ≡ true
-unfolding givesTruthOf rowOf
-gives-is-word = refl
-
-gives-is-procedure : givesTruthOf isProcedureCode ≡ true
-unfolding givesTruthOf rowOf
-gives-is-procedure = refl
 
 -- ---- constants
 word-constant : (w : ℕ) → isConstant (wordTermOf w) ≡ true
@@ -235,7 +150,7 @@ module _ {l n : ℕ} {N : ℕ → Type 0} (full : N tableFull) {ns : List ℕ} w
       → Does l n (makeOf (term operatorTerm op a b 0)) ts (MeansTruth ns c) N
   formula-does {op = op} {a} {b} e f h k m =
       does-weaken f (λ us x g j. record { sort = there-sort truthTerm (formula op a b e) j; is = there-means ns (g .fit) j ∙ m us g })
-      (does-make full f h (λ c. absurd (k c)))
+      (does-make-constant full f h (λ c. absurd (k c)))
 
   pub not-does : {ts : List Term} {x : ℕ} {b : Bool} → Fit n ts → MeansTruth ns b ts x → Does l n (notOf x) ts (MeansTruth ns (not b)) N
   unfolding notOf
@@ -271,7 +186,7 @@ module _ {l n : ℕ} {N : ℕ → Type 0} (full : N tableFull) {ns : List ℕ} w
       does-weaken f (λ us a s j. record {
         named = value-of choiceTerm refl refl (there-sort choiceTerm (choice-sort g x y) j);
         is = there-means ns (s .fit) j ∙ mean-choice ns (meaning ns us) g x y (truth-step s h .is) (value-step s k .is) (value-step s i .is);
-      }) (does-make full f (laid-choice (h .sort) (k .named) (i .named)) (λ c. unknown f h e d c)))
+      }) (does-make-constant full f (laid-choice (h .sort) (k .named) (i .named)) (λ c. unknown f h e d c)))
 
   pub truth-does : {ts : List Term} {x : ℕ} {v : Value} → Fit n ts → MeansValue ns v ts x → Does l n (truthOf x) ts (MeansTruth ns (not (isFalse v))) N
   unfolding truthOf
@@ -299,7 +214,7 @@ module _ {l n : ℕ} {N : ℕ → Type 0} (full : N tableFull) {ns : List ℕ} w
       does-weaken f (λ us a s j. record {
         named = value-of wordTerm refl refl (there-sort wordTerm (word-sort w) j);
         is = there-means ns (s .fit) j ∙ (means-word ns (meaning ns us) (wordTermOf w) refl ∙ ap word (join-halves w));
-      }) (does-make full f (laid-word w) (λ c. word-constant w))
+      }) (does-make-constant full f (laid-word w) (λ c. word-constant w))
 
   pub procedure-does : {ts : List Term} {i e b : ℕ} {v : Value} → Fit n ts → i < recordLimit → MeansBindings ns v ts e → b < n
       → Does l n (makeOf (term procedureTerm 0 i e b)) ts (MeansValue ns (procedure i v)) N
@@ -307,7 +222,7 @@ module _ {l n : ℕ} {N : ℕ → Type 0} (full : N tableFull) {ns : List ℕ} w
       does-weaken f (λ us a s j. record {
         named = value-of procedureTerm refl refl (there-sort procedureTerm (procedure-sort i e b) j);
         is = there-means ns (s .fit) j ∙ (means-procedure ns (meaning ns us) (term procedureTerm 0 i e b) refl ∙ ap (procedure i) (bindings-step s h .is));
-      }) (does-make full f (laid-procedure k (h .sort) o) (λ c. procedure-constant i e b))
+      }) (does-make-constant full f (laid-procedure k (h .sort) o) (λ c. procedure-constant i e b))
 
   pub binding-does : {ts : List Term} {x e : ℕ} {v w : Value} → Fit n ts → MeansValue ns v ts x → MeansBindings ns w ts e
       → Does l n (makeOf (term bindingTerm 0 x e 0)) ts (MeansBindings ns (binding v w)) N
@@ -315,4 +230,4 @@ module _ {l n : ℕ} {N : ℕ → Type 0} (full : N tableFull) {ns : List ℕ} w
       does-weaken f (λ us a s j. record {
         sort = there-sort bindingTerm (binding-sort x e) j;
         is = there-means ns (s .fit) j ∙ (means-binding ns (meaning ns us) (term bindingTerm 0 x e 0) refl ∙ rw (value-step s h .is, bindings-step s k .is));
-      }) (does-make full f (laid-binding (h .named) (k .sort)) (λ c. binding-constant x e))
+      }) (does-make-constant full f (laid-binding (h .named) (k .sort)) (λ c. binding-constant x e))

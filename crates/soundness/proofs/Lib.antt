@@ -10,6 +10,7 @@ pub mod Cases
 pub mod Walking
 pub mod Calling
 pub mod Simulation
+pub mod Evaluation
 pub mod Link
 pub mod Readout
 pub mod Scope

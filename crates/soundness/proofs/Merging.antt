@@ -16,8 +16,8 @@ use Rattle.semantics.specs.States.{halts}
 use Rattle.semantics.specs.Merge.{branchOf, assumedStep, assertedStep, mergeStatesOf, valueStepOf, mergeValuesOf, finishOf, mergeOf}
 use Rattle.semantics.specs.Run.{Value, Ended, gives, aborts, errs, spends}
 use Rattle.typing.proofs.Formed.{never}
-use Rattle.typing.proofs.Does.{Fit}
-use Rattle.soundness.proofs.Constants.{Step, stay, step-on, Does, does-give, does-then, does-map, does-read, does-if}
+use Rattle.typing.proofs.Does.{Fit, stay, step-on, does-give, does-then, does-map, does-read, does-if}
+use Rattle.soundness.proofs.Constants.{Step, Does}
 use Rattle.soundness.proofs.Held.{MeansTruth, MeansValue, truth-step, value-step}
 use Rattle.soundness.proofs.Factory.{choice-does}
 use Rattle.soundness.proofs.Sim.{Seen, ends, broken, on, StateMeans, state-step, Sim, on-off, stops-dead, runs-live, merge-assumed-does, merge-asserted-does, sim-out, sim-halt}

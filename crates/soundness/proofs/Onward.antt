@@ -21,7 +21,7 @@ use Rattle.semantics.specs.Run.{Value, truth, word, Ended, gives, aborts, errs,
 use Rattle.semantics.specs.History.{ranOn}
 use Rattle.typing.proofs.Formed.{never}
 use Rattle.typing.proofs.Does.{Fit}
-use Rattle.typing.proofs.Evaluation.{Ruled}
+use Rattle.typing.proofs.Ruled.{Ruled}
 use Rattle.depth.proofs.Depth.{depth-enough}
 use Rattle.soundness.proofs.Means.{isProper}
 use Rattle.soundness.proofs.Constants.{Const}

@@ -17,13 +17,13 @@ use Rattle.semantics.specs.Factory.{constantOf, operatorTermOf}
 use Rattle.semantics.specs.Run.{Value, truth, word, isAWord, wordIn, operationValue, wordsRun}
 use Rattle.typing.proofs.Grown.{grown-length}
 use Rattle.typing.proofs.Formed.{never}
-use Rattle.typing.proofs.Does.{Fit}
-use Rattle.typing.proofs.Factory.{Operands}
+use Rattle.typing.proofs.Does.{Fit, does-give, does-weaken, does-read, does-with, does-if, does-eq}
+use Rattle.typing.proofs.Factory.{Operands, laid-operator, operator-value}
 use Rattle.soundness.proofs.Means.{operatorMeaning, meaning, meaning-grown}
-use Rattle.soundness.proofs.Constants.{isConstant, Const, const-at, Step, Does, does-give, does-weaken, does-read, does-with, does-if, does-eq, does-make}
+use Rattle.soundness.proofs.Constants.{isConstant, Const, const-at, Step, Does, does-make-constant}
 use Rattle.soundness.proofs.BySort.{Kind, constant-truth, constant-word, free-truth, free-word, truth-operator, word-operator, a-choice, a-procedure, a-binding, no-kind, kind-of, means-word, means-at, there-means, truth-means, procedure-means}
 use Rattle.soundness.proofs.Held.{MeansValue, truth-is-value, value-step, false-means, true-means}
-use Rattle.soundness.proofs.Factory.{laid-operator, mean-operator, operator-named, no-choice, by-sort, word-does}
+use Rattle.soundness.proofs.Factory.{mean-operator, no-choice, by-sort, word-does}
 
 -- ---- what the operators give
 -- an operator that gives a truth is none of those that give words
@@ -173,6 +173,6 @@ module _ {l n : ℕ} {N : ℕ → Type 0} (full : N tableFull) {ns : List ℕ} {
       made : (Const ts → isConstant (term operatorTerm op a b 0) ≡ true) → Does l n (makeOf (term operatorTerm op a b 0)) ts (MeansValue ns (operatorMeaning op v w)) N
       made q =
           does-weaken f (λ us k s j. record {
-            named = operator-named j;
+            named = operator-value j;
             is = there-means ns (s .fit) j ∙ mean-operator ns (meaning ns us) op a b (value-step s x .is) (second-step s y .is);
-          }) (does-make full f (laid-operator h) q)
+          }) (does-make-constant full f (laid-operator h) q)

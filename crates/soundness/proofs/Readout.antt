@@ -17,11 +17,12 @@ use Rattle.semantics.specs.Evaluation.{evalOf}
 use Rattle.semantics.specs.Run.{Value, truth, word, procedure, binding, none, gives, spends}
 use Rattle.semantics.specs.PlainRun.{valueGiven, endedOutcome}
 use Rattle.semantics.specs.Reading.{isTrue, readings, valueOutcome, resultOutcome, readIn}
+use Rattle.terms.specs.Search.{codeSetting}
 use Rattle.typing.proofs.Formed.{never}
-use Rattle.typing.proofs.Does.{Fit}
-use Rattle.typing.proofs.Evaluation.{Ruled}
+use Rattle.typing.proofs.Does.{Fit, Post, did, not-did}
+use Rattle.typing.proofs.Ruled.{Ruled}
 use Rattle.soundness.proofs.Means.{isProper}
-use Rattle.soundness.proofs.Constants.{Const, Step, Post, did, not-did, Does}
+use Rattle.soundness.proofs.Constants.{Const, Step, Does}
 use Rattle.soundness.proofs.Held.{MeansBindings, is-proper}
 use Rattle.soundness.proofs.Sim.{Seen, ends, broken, on, totalOf, StateMeans, Sim}
 use Rattle.soundness.proofs.Simulation.{simulation}
@@ -34,20 +35,20 @@ pub record Done (n : ℕ) {A : Type 0} (ts : List Term) (Q : List Term → A →
 
 pub done : {l n : ℕ} {A : Type 0} {m : Make A} {ts us : List Term} {Q : List Term → A → Type 0} {N : ℕ → Type 0} {a : A} {u : ℕ}
     → Does l n m ts Q N → m (settingOf l) ts ≡ gave us a u → Done n ts Q us a
-done {l} {n} {A} {m} {ts} {us} {Q} {N} {a} {u} d q = go (m (settingOf l) ts) (d .post) q
+done {l} {n} {A} {m} {ts} {us} {Q} {N} {a} {u} d q = go (m (codeSetting l) ts) (m (settingOf l) ts) (d .post) q
   where
-    go : (x : Got A) → Post n ts Q N x → x ≡ gave us a u → Done n ts Q us a
-    go x (did {us = ws} {a = b} s h) e =
+    go : (w x : Got A) → Post Const n ts Q N w x → x ≡ gave us a u → Done n ts Q us a
+    go w x (did {us = ws} {a = b} s h) e =
         let i : ws ≡ us = cc in let j : b ≡ a = cc in subst (λ c. Done n ts Q us c) j (subst (λ vs. Done n ts Q vs b) i (record { step = s; holds = h }))
-    go x (not-did h) e = let z : _≡_ {A = ℕ} 0 1 = cc in absurd (omega arith)
+    go w x (not-did h) e = let z : _≡_ {A = ℕ} 0 1 = cc in absurd (omega arith)
 
 pub not-done : {l n : ℕ} {A : Type 0} {m : Make A} {ts : List Term} {Q : List Term → A → Type 0} {N : ℕ → Type 0} {k : ℕ}
     → Does l n m ts Q N → m (settingOf l) ts ≡ refused k → N k
-not-done {l} {n} {A} {m} {ts} {Q} {N} {k} d q = go (m (settingOf l) ts) (d .post) q
+not-done {l} {n} {A} {m} {ts} {Q} {N} {k} d q = go (m (codeSetting l) ts) (m (settingOf l) ts) (d .post) q
   where
-    go : (x : Got A) → Post n ts Q N x → x ≡ refused k → N k
-    go x (did s h) e = let z : _≡_ {A = ℕ} 0 1 = cc in absurd (omega arith)
-    go x (not-did {k = j} h) e = let i : j ≡ k = cc in subst N i h
+    go : (w x : Got A) → Post Const n ts Q N w x → x ≡ refused k → N k
+    go w x (did s h) e = let z : _≡_ {A = ℕ} 0 1 = cc in absurd (omega arith)
+    go w x (not-did {k = j} h) e = let i : j ≡ k = cc in subst N i h
 
 -- ---- what is read
 unfoldable pub seenOutcome : Seen → Outcome

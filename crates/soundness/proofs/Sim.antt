@@ -21,9 +21,9 @@ use Rattle.semantics.specs.Evaluation.{Run, placeOf}
 use Rattle.semantics.specs.Run.{Value, truth, word, procedure, binding, none, Ended, gives, aborts, errs, spends, Running, after, isFalse, operatorRun, datumValue, callRun}
 use Rattle.typing.proofs.Grown.{at-past, sort-grown, value-grown}
 use Rattle.typing.proofs.Formed.{never, Laid, laid-at, binding-value, binding-next}
-use Rattle.typing.proofs.Does.{Fit}
+use Rattle.typing.proofs.Does.{Fit, does-then, does-map}
 use Rattle.soundness.proofs.Means.{meaning-past}
-use Rattle.soundness.proofs.Constants.{Const, const-back, Step, Does, does-then, does-map}
+use Rattle.soundness.proofs.Constants.{Const, const-back, Step, Does}
 use Rattle.soundness.proofs.BySort.{binding-means, binding-kind}
 use Rattle.soundness.proofs.Held.{MeansTruth, MeansValue, MeansBindings, truth-step, value-step, truth-is-value, false-means, known-is-false, known-is-true, unknown}
 use Rattle.soundness.proofs.Factory.{and-does, implies-does}

@@ -13,8 +13,8 @@ use Rattle.semantics.specs.Numbers.{datumRecord, variableRecord, procedureRecor
 use Rattle.semantics.specs.Records.{recordAt, datumWord}
 use Rattle.semantics.specs.Evaluation.{Run, expressionOf, liveOf, evalOf}
 use Rattle.semantics.specs.Run.{Value, binding, gives, aborts, errs, Running, after, isFalse, operatorRun, datumValue, callRun, procedure}
-use Rattle.typing.proofs.Evaluation.{Ruled}
-use Rattle.soundness.proofs.Constants.{does-give, does-refuse, does-read, does-with, does-if, does-eq, does-up}
+use Rattle.typing.proofs.Ruled.{Ruled}
+use Rattle.typing.proofs.Does.{does-give, does-refuse, does-read, does-with, does-if, does-eq, does-up}
 use Rattle.soundness.proofs.Sim.{lookOf, totalExpression, totalOf, spent, Sound, Sims, on-off, place-is, stops-dead, runs-live, sim-halt}
 use Rattle.soundness.proofs.Cases.{Entry, datum-sim, variable-sim, procedure-sim, abort-sim, error-sim, operator-sim, let-sim, if-sim}
 use Rattle.soundness.proofs.Calling.{call-sim}

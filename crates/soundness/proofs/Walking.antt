@@ -6,43 +6,21 @@ use mathlib.Core.List.{List, [], _∷_, _++_}
 use Prim.Native.Nat.{ℕ, zero, suc, _<_}
 use native.Mathlib.Omega.{arith}
 use lib.ListN.{length}
-use lib.Dec.{eqb}
-use borrow.Author.Tests.{eqb-true, eqb-false}
 use Rattle.notation.specs.Notation.{pick, if_equals_then_else_}
 use Rattle.semantics.specs.declared.Term.{Term}
 use Rattle.semantics.specs.declared.Leaf.{Leaf}
 use Rattle.semantics.specs.Numbers.{choiceTerm, leafLimit, callTooWide, tableFull}
-use Rattle.semantics.specs.Terms.{at, sortOf, laidOut, wellFormed}
+use Rattle.semantics.specs.Terms.{at, sortOf}
 use Rattle.semantics.specs.Walk.{leafOf, Walk, sideOf, leftSideOf, rightSideOf, sidesOf, nodeOf, walkOf}
 use Rattle.semantics.specs.Run.{Value}
-use Rattle.typing.proofs.Grown.{Grown, still, more, at-lower, at-newest, at-grown, Value as Named, sort-grown, value-grown}
-use Rattle.typing.proofs.Formed.{never, choice-names, formed-newest}
+use Rattle.typing.proofs.Grown.{at-grown, Value as Named, sort-grown, value-grown}
+use Rattle.typing.proofs.Formed.{never, choice-names, Laid, laid-at}
+use Rattle.typing.proofs.Does.{step-on, does-give, does-refuse, does-then, does-weaken, does-read, does-with, does-eq, does-below}
 use Rattle.soundness.proofs.Means.{meaning}
-use Rattle.soundness.proofs.Constants.{Const, const-back, Step, step-on, Does, does-give, does-refuse, does-then, does-weaken, does-read, does-with, does-eq, does-below}
+use Rattle.soundness.proofs.Constants.{Const, const-back, Step, Does}
 use Rattle.soundness.proofs.BySort.{means-choice, means-at}
 use Rattle.soundness.proofs.Held.{MeansTruth, MeansValue, truth-step, value-step, some-truth, known-is-false}
 use Rattle.soundness.proofs.Factory.{not-does, and-does, no-choice}
-
--- ---- a term and those that were there before it
-record Born (n : ℕ) (ts : List Term) (a : ℕ) : Type 0 where
-  under : List Term
-  len : length under ≡ a
-  grown : Grown under ts
-  laid : laidOut n under (at ts a) ≡ true
-
-born : (n : ℕ) (ts : List Term) (a : ℕ) → wellFormed n ts ≡ true → a < length ts → Born n ts a
-born n [] a h l = absurd (omega arith)
-born n (t ∷ ts) a h l = formed-newest n t ts h λ p u v. go p (eqb a (length ts)) refl (λ k. born n ts a v k)
-  where
-    go : laidOut n ts t ≡ true → (b : Bool) → eqb a (length ts) ≡ b → (a < length ts → Born n ts a) → Born n (t ∷ ts) a
-    go p true e r =
-        let i : a ≡ length ts = eqb-true a (length ts) e in
-        let j : at (t ∷ ts) a ≡ t = ap (at (t ∷ ts)) i ∙ at-newest t ts in
-        record { under = ts; len = sym i; grown = more still; laid = ap (laidOut n ts) j ∙ p }
-    go p false e r =
-        let k : a < length ts = omega (arith, eqb-false a (length ts) e) in
-        let x = r k in
-        record { under = x .under; len = x .len; grown = more (x .grown); laid = ap (laidOut n (x .under)) (at-lower t ts a k) ∙ x .laid }
 
 -- what is a choice by its kind is one by its sort
 choice-of : (t : Term) → t .kind ≡ choiceTerm → sortOf t ≡ choiceTerm
@@ -181,7 +159,7 @@ module _ (l n : ℕ) (ns : List ℕ) (N : ℕ → Type 0) (top : List Term) (roo
           gs = b ∷ [];
           leaves = leaf (record { guard = h; number = x; named = i .named; is = refl; plain = plain; agrees = λ _. i .is; live = live }) no-leaf;
           some = or-false b;
-        })) (λ k. does-refuse callTooWide (wide (λ c. let e = few (z .con c) in omega arith))))
+        })) (λ k. does-refuse callTooWide (wide (λ c. let e = few (z .keeps c) in omega arith))))
 
     node-does : Walks (suc d) (nodeOf w)
     unfolding nodeOf
@@ -189,9 +167,9 @@ module _ (l n : ℕ) (ns : List ℕ) (N : ℕ → Type 0) (top : List Term) (roo
         does-read _ _ (does-eq _ _
         (λ e.
         let f = z .fit in
-        let y : Born n ts x = born n ts x (f .formed) (i .named .low) in
+        let y : Laid n ts x = laid-at n ts x (f .formed) (i .named .low) in
         let o = choice-names n (y .under) (at ts x) (y .laid) e in
-        let lb = o .1 .low in let lc = o .2 .low in let q = y .len in
+        let lb = o .1 .low in let lc = o .2 .low in let q = y .number in
         subst (λ a. Does l n (sidesOf w path (at ts x) found) ts (Walked ns found a b) N)
         (sym (means-choice ns (meaning ns ts) (at ts x) e) ∙ (sym (means-at ns f x (i .named .low)) ∙ i .is))
         (sides-does ts path (at ts x) found b _ _ _ (omega arith) (omega arith) z (λ c. constant-choice e c) h (some-truth f (sort-grown (y .grown) (o .0)))

@@ -1,21 +1,19 @@
--- The factory makes terms of their kinds: from truths truths, from values values. Assumes nothing.
+-- The terms that the factory makes: each is laid out over the table that its operands stand in, and of which sort it is. Assumes nothing.
 use mathlib.Core.Path.{_≡_, refl, ap, _∙_}
 use mathlib.Core.Bool.{Bool, true, false, _&&_, or-true}
 use mathlib.Core.List.{List}
 use Prim.Native.Nat.{ℕ, _<_}
 use lib.Dec.{eqb, ltb}
 use borrow.Author.Tests.{eqb-true, eqb-false, ne-eqb, lt-ltb}
-use Rattle.notation.specs.Notation.{pick, with, if_then_else_, if_equals_then_else_, if_below_then_else_}
+use Rattle.notation.specs.Notation.{pick, if_then_else_, if_equals_then_else_, if_below_then_else_}
 use Rattle.operators.specs.Operators.{operandsOf, givesTruthOf, rowOf}
 use Rattle.semantics.specs.declared.Term.{Term}
 use Rattle.semantics.specs.Numbers.{truthTerm, wordTerm, operatorTerm, choiceTerm, procedureTerm, bindingTerm, notCode, isWordCode, isProcedureCode, negationCode, conjunctionCode, disjunctionCode, truthCode, falseNumber, trueNumber, recordLimit, noBinding}
-use Rattle.semantics.specs.Terms.{term, wordTermOf, truthNumber, at, sortOf, namesValue, operandsLaidOut, laidOut}
-use Rattle.semantics.specs.Steps.{give, makeOf}
-use Rattle.semantics.specs.Factory.{notOf, andOf, orOf, impliesOf, choiceOf, truthOf, isWordOf, isProcedureOf, constantOf, operatorTermOf}
+use Rattle.semantics.specs.Terms.{term, wordTermOf, truthNumber, sortOf, namesValue, operandsLaidOut, laidOut}
 use Rattle.semantics.proofs.Fields.{high-unused}
-use Rattle.typing.proofs.Grown.{Grown, Sort, Value, sort-grown, value-grown, value-of, sort-at, truth-named, choice-named, binding-named}
+use Rattle.typing.proofs.Grown.{Grown, Sort, Value, value-grown, value-of, truth-named, choice-named, binding-named}
 use Rattle.typing.proofs.Formed.{There}
-use Rattle.typing.proofs.Does.{Lies, Fit, Does, does-give, does-then, does-weaken, does-read, does-with, does-if, does-eq, does-make}
+use Rattle.typing.proofs.Does.{Lies, Fit}
 
 abbrev pub Truth : List Term → ℕ → Type 0
 Truth ts x = Sort truthTerm ts x
@@ -40,31 +38,31 @@ false-value f = truth-value (false-truth f)
 
 -- ---- terms that are laid out
 module _ {n : ℕ} {ts : List Term} where
-  laid-not : {x : ℕ} → Truth ts x → Lies n ts (term operatorTerm negationCode x 0 0)
+  pub laid-not : {x : ℕ} → Truth ts x → Lies n ts (term operatorTerm negationCode x 0 0)
   unfolding laidOut operandsLaidOut if_equals_then_else_ if_below_then_else_
   laid-not h = record { is = rw (truth-named h) }
 
-  laid-and : {x y : ℕ} → Truth ts x → Truth ts y → Lies n ts (term operatorTerm conjunctionCode x y 0)
+  pub laid-and : {x y : ℕ} → Truth ts x → Truth ts y → Lies n ts (term operatorTerm conjunctionCode x y 0)
   unfolding laidOut operandsLaidOut if_equals_then_else_ if_below_then_else_
   laid-and h k = record { is = rw (truth-named h, truth-named k) }
 
-  laid-or : {x y : ℕ} → Truth ts x → Truth ts y → Lies n ts (term operatorTerm disjunctionCode x y 0)
+  pub laid-or : {x y : ℕ} → Truth ts x → Truth ts y → Lies n ts (term operatorTerm disjunctionCode x y 0)
   unfolding laidOut operandsLaidOut if_equals_then_else_ if_below_then_else_
   laid-or h k = record { is = rw (truth-named h, truth-named k) }
 
-  laid-truth : {x : ℕ} → Sort choiceTerm ts x → Lies n ts (term operatorTerm truthCode x 0 0)
+  pub laid-truth : {x : ℕ} → Sort choiceTerm ts x → Lies n ts (term operatorTerm truthCode x 0 0)
   unfolding laidOut operandsLaidOut if_equals_then_else_ if_below_then_else_
   laid-truth h = record { is = rw (choice-named h) }
 
-  laid-is-word : {x : ℕ} → Sort choiceTerm ts x → Lies n ts (term operatorTerm isWordCode x 0 0)
+  pub laid-is-word : {x : ℕ} → Sort choiceTerm ts x → Lies n ts (term operatorTerm isWordCode x 0 0)
   unfolding laidOut operandsLaidOut if_equals_then_else_ if_below_then_else_
   laid-is-word h = record { is = rw (choice-named h) }
 
-  laid-is-procedure : {x : ℕ} → Sort choiceTerm ts x → Lies n ts (term operatorTerm isProcedureCode x 0 0)
+  pub laid-is-procedure : {x : ℕ} → Sort choiceTerm ts x → Lies n ts (term operatorTerm isProcedureCode x 0 0)
   unfolding laidOut operandsLaidOut if_equals_then_else_ if_below_then_else_
   laid-is-procedure h = record { is = rw (choice-named h) }
 
-  laid-choice : {g x y : ℕ} → Truth ts g → Value ts x → Value ts y → Lies n ts (term choiceTerm 0 g x y)
+  pub laid-choice : {g x y : ℕ} → Truth ts g → Value ts x → Value ts y → Lies n ts (term choiceTerm 0 g x y)
   unfolding laidOut if_equals_then_else_
   laid-choice h k i = record { is = rw (truth-named h, k .is, i .is) }
 
@@ -100,7 +98,7 @@ pub operands-grown : {ts us : List Term} {op a b : ℕ} → Grown ts us → Oper
 operands-grown g h =
     record { some = h .some; few = h .few; first = value-grown g (h .first); alone = h .alone; second = λ e. value-grown g (h .second e) }
 
-laid-operator : {n : ℕ} {ts : List Term} {op a b : ℕ} → Operands ts op a b → Lies n ts (term operatorTerm op a b 0)
+pub laid-operator : {n : ℕ} {ts : List Term} {op a b : ℕ} → Operands ts op a b → Lies n ts (term operatorTerm op a b 0)
 unfolding laidOut operandsLaidOut if_equals_then_else_ if_below_then_else_
 laid-operator {n} {ts} {op} {a} {b} h = record { is = rw (ne-eqb _ _ (h .some), lt-ltb _ _ (h .few), h .first .is) (go (eqb (operandsOf op) 1) refl) }
   where
@@ -109,12 +107,12 @@ laid-operator {n} {ts} {op} {a} {b} h = record { is = rw (ne-eqb _ _ (h .some), 
     go false e = rw (h .second (eqb-false _ _ e) .is)
 
 -- operators that give truths
-formula : (op a b : ℕ) → givesTruthOf op ≡ true → sortOf (term operatorTerm op a b 0) ≡ truthTerm
+pub formula : (op a b : ℕ) → givesTruthOf op ≡ true → sortOf (term operatorTerm op a b 0) ≡ truthTerm
 unfolding sortOf if_equals_then_else_ if_then_else_
 formula op a b e = rw e
 
 -- any operator gives a value
-operator-value : {ts : List Term} {x op a b : ℕ} → There (term operatorTerm op a b 0) ts x → Value ts x
+pub operator-value : {ts : List Term} {x op a b : ℕ} → There (term operatorTerm op a b 0) ts x → Value ts x
 unfolding sortOf if_equals_then_else_ if_then_else_
 operator-value {ts} {x} {op} h = go (givesTruthOf op) refl
   where
@@ -122,11 +120,11 @@ operator-value {ts} {x} {op} h = go (givesTruthOf op) refl
     go true e = value-of truthTerm refl refl (there-sort truthTerm (rw e) h)
     go false e = value-of wordTerm refl refl (there-sort wordTerm (rw e) h)
 
-word-sort : (w : ℕ) → sortOf (wordTermOf w) ≡ wordTerm
+pub word-sort : (w : ℕ) → sortOf (wordTermOf w) ≡ wordTerm
 unfolding sortOf if_equals_then_else_
 word-sort w = refl
 
-choice-sort : (g x y : ℕ) → sortOf (term choiceTerm 0 g x y) ≡ choiceTerm
+pub choice-sort : (g x y : ℕ) → sortOf (term choiceTerm 0 g x y) ≡ choiceTerm
 unfolding sortOf if_equals_then_else_
 choice-sort g x y = refl
 
@@ -139,111 +137,26 @@ unfolding sortOf if_equals_then_else_
 binding-sort v e = refl
 
 -- the codes that give truths
-gives-not : givesTruthOf negationCode ≡ true
+pub gives-not : givesTruthOf negationCode ≡ true
 unfolding givesTruthOf rowOf
 gives-not = refl
 
-gives-and : givesTruthOf conjunctionCode ≡ true
+pub gives-and : givesTruthOf conjunctionCode ≡ true
 unfolding givesTruthOf rowOf
 gives-and = refl
 
-gives-or : givesTruthOf disjunctionCode ≡ true
+pub gives-or : givesTruthOf disjunctionCode ≡ true
 unfolding givesTruthOf rowOf
 gives-or = refl
 
-gives-truth : givesTruthOf truthCode ≡ true
+pub gives-truth : givesTruthOf truthCode ≡ true
 unfolding givesTruthOf rowOf
 gives-truth = refl
 
-gives-is-word : givesTruthOf isWordCode ≡ true
+pub gives-is-word : givesTruthOf isWordCode ≡ true
 unfolding givesTruthOf rowOf
 gives-is-word = refl
 
-gives-is-procedure : givesTruthOf isProcedureCode ≡ true
+pub gives-is-procedure : givesTruthOf isProcedureCode ≡ true
 unfolding givesTruthOf rowOf
 gives-is-procedure = refl
-
-module _ {l n : ℕ} where
-  -- a term that is made, by its sort
-  pub makes : {ts : List Term} {t : Term} (k : ℕ) → sortOf t ≡ k → Fit n ts → Lies n ts t → Does l n (makeOf t) ts (Sort k)
-  makes k e f h = does-weaken (λ us a g i j. there-sort k e j) (does-make f h)
-
-  -- a formula, where it is not folded
-  make-formula : {ts : List Term} {op a b : ℕ} → givesTruthOf op ≡ true → Fit n ts → Lies n ts (term operatorTerm op a b 0)
-      → Does l n (makeOf (term operatorTerm op a b 0)) ts Truth
-  make-formula {op = op} {a} {b} e f h = makes truthTerm (formula op a b e) f h
-
-  pub not-does : {ts : List Term} {x : ℕ} → Fit n ts → Truth ts x → Does l n (notOf x) ts Truth
-  unfolding notOf
-  not-does f h =
-      does-read _ _ (does-eq _ _ (λ e. does-give _ f (true-truth f)) λ e. does-eq _ _ (λ e. does-give _ f (false-truth f)) λ e.
-      make-formula gives-not f (laid-not h))
-
-  pub and-does : {ts : List Term} {x y : ℕ} → Fit n ts → Truth ts x → Truth ts y → Does l n (andOf x y) ts Truth
-  unfolding andOf
-  and-does f h k =
-      does-read _ _ (does-eq _ _ (λ e. does-give _ f (false-truth f)) λ e. does-eq _ _ (λ e. does-give _ f k) λ e.
-      does-read _ _ (does-eq _ _ (λ e. does-give _ f (false-truth f)) λ e. does-eq _ _ (λ e. does-give _ f h) λ e.
-      does-eq _ _ (λ e. does-give _ f h) λ e. make-formula gives-and f (laid-and h k)))
-
-  pub or-does : {ts : List Term} {x y : ℕ} → Fit n ts → Truth ts x → Truth ts y → Does l n (orOf x y) ts Truth
-  unfolding orOf
-  or-does f h k =
-      does-read _ _ (does-eq _ _ (λ e. does-give _ f (true-truth f)) λ e. does-eq _ _ (λ e. does-give _ f k) λ e.
-      does-read _ _ (does-eq _ _ (λ e. does-give _ f (true-truth f)) λ e. does-eq _ _ (λ e. does-give _ f h) λ e.
-      does-eq _ _ (λ e. does-give _ f h) λ e. make-formula gives-or f (laid-or h k)))
-
-  pub implies-does : {ts : List Term} {x y : ℕ} → Fit n ts → Truth ts x → Truth ts y → Does l n (impliesOf x y) ts Truth
-  unfolding impliesOf
-  implies-does f h k = does-then (not-does f h) (λ us a g i j. or-does i j (sort-grown g k))
-
-  pub choice-does : {ts : List Term} {g x y : ℕ} → Fit n ts → Truth ts g → Value ts x → Value ts y → Does l n (choiceOf g x y) ts Value
-  unfolding choiceOf
-  choice-does {g = g} {x} {y} f h k i =
-      does-read _ _ (does-eq _ _ (λ e. does-give _ f k) λ e. does-eq _ _ (λ e. does-give _ f i) λ e.
-      does-weaken (λ us a _ _ j. value-of choiceTerm refl refl j) (makes choiceTerm (choice-sort g x y) f (laid-choice h k i)))
-
-  pub truth-does : {ts : List Term} (x : ℕ) → Fit n ts → Does l n (truthOf x) ts Truth
-  unfolding truthOf
-  truth-does {ts} x f =
-      does-read _ _ (does-eq _ _ (λ e. make-formula gives-truth f (laid-truth (sort-at ts x choiceTerm refl e))) λ e.
-      does-eq _ _ (λ e. does-give _ f (sort-at ts x truthTerm refl e)) λ e. does-give _ f (true-truth f))
-
-  pub is-word-does : {ts : List Term} (x : ℕ) → Fit n ts → Does l n (isWordOf x) ts Truth
-  unfolding isWordOf
-  is-word-does {ts} x f =
-      does-read _ _ (does-eq _ _ (λ e. make-formula gives-is-word f (laid-is-word (sort-at ts x choiceTerm refl e))) λ e.
-      does-eq _ _ (λ e. does-give _ f (true-truth f)) λ e. does-give _ f (false-truth f))
-
-  pub is-procedure-does : {ts : List Term} (x : ℕ) → Fit n ts → Does l n (isProcedureOf x) ts Truth
-  unfolding isProcedureOf
-  is-procedure-does {ts} x f =
-      does-read _ _ (does-eq _ _ (λ e. make-formula gives-is-procedure f (laid-is-procedure (sort-at ts x choiceTerm refl e))) λ e.
-      does-eq _ _ (λ e. does-give _ f (true-truth f)) λ e. does-give _ f (false-truth f))
-
-  pub word-does : {ts : List Term} (w : ℕ) → Fit n ts → Does l n (makeOf (wordTermOf w)) ts Value
-  word-does w f = does-weaken (λ us a _ _ j. value-of wordTerm refl refl j) (makes wordTerm (word-sort w) f (laid-word w))
-
--- ---- operators 1 to 12, worked out
-
--- a truth that is worked out is the term false or true
-number-value : {n : ℕ} {ts : List Term} → Fit n ts → (w : ℕ) → Value ts (truthNumber w)
-unfolding truthNumber if_equals_then_else_
-number-value {n} {ts} f w = go (eqb w 1)
-  where
-    go : (b : Bool) → Value ts (pick b trueNumber falseNumber)
-    go true = truth-value (true-truth f)
-    go false = false-value f
-
-module _ {l n : ℕ} {ts : List Term} (f : Fit n ts) where
-  constant-does : (op w : ℕ) → Does l n (constantOf op w) ts Value
-  unfolding constantOf
-  constant-does op w =
-      does-with _ _ (does-if (givesTruthOf op) (λ e. does-with _ _ (does-give _ f (number-value f w))) (λ e. does-with _ _ (word-does w f)))
-
-  pub operator-does : {op a b : ℕ} → Operands ts op a b → Does l n (operatorTermOf op a b) ts Value
-  unfolding operatorTermOf
-  operator-does {op} {a} {b} h =
-      let made : Does l n (makeOf (term operatorTerm op a b 0)) ts Value = does-weaken (λ us x _ _ j. operator-value j) (does-make f (laid-operator h)) in
-      does-read _ _ (does-eq _ _ (λ e. does-with _ _ (does-eq _ _ (λ e. does-with _ _ (does-with _ _ (constant-does op _))) λ e.
-      does-read _ _ (does-eq _ _ (λ e. does-with _ _ (does-with _ _ (does-with _ _ (constant-does op _)))) λ e. made))) λ e. made)

@@ -3,7 +3,7 @@
 use mathlib.Core.Path.{_≡_, refl, sym, ap, _∙_}
 use mathlib.Core.Bool.{Bool, true, false, not, _&&_, _||_}
 use mathlib.Core.List.{List, [], _∷_}
-use Prim.Native.Nat.{ℕ, zero, _+_, _<_, _≤_, max}
+use Prim.Native.Nat.{ℕ, _+_, _<_, _≤_, max}
 use native.Mathlib.Omega.{arith}
 use lib.ListN.{length}
 use lib.Dec.{eqb, ltb}
@@ -130,8 +130,11 @@ module _ (n : ℕ) (ts : List Term) (t : Term) (h : laidOut n ts t ≡ true) whe
       go false false false false e i j k l m = omega arith
 
 -- ---- the table as a whole
+
+-- a term of the table, and the terms that were there before it
 pub record Laid (n : ℕ) (ts : List Term) (a : ℕ) : Type 0 where
   pub under : List Term
+  pub number : length under ≡ a
   pub grown : Grown under ts
   pub laid : laidOut n under (at ts a) ≡ true
 
@@ -148,12 +151,13 @@ laid-at n (t ∷ ts) a h l = formed-newest n t ts h λ p u v. go p (eqb a (lengt
   where
     go : laidOut n ts t ≡ true → (b : Bool) → eqb a (length ts) ≡ b → (a < length ts → Laid n ts a) → Laid n (t ∷ ts) a
     go p true e r =
-        let i : at (t ∷ ts) a ≡ t = ap (at (t ∷ ts)) (eqb-true a (length ts) e) ∙ at-newest t ts in
-        record { under = ts; grown = more still; laid = ap (laidOut n ts) i ∙ p }
+        let i : a ≡ length ts = eqb-true a (length ts) e in
+        let j : at (t ∷ ts) a ≡ t = ap (at (t ∷ ts)) i ∙ at-newest t ts in
+        record { under = ts; number = sym i; grown = more still; laid = ap (laidOut n ts) j ∙ p }
     go p false e r =
         let k : a < length ts = omega (arith, eqb-false a (length ts) e) in
         let x = r k in
-        record { under = x .under; grown = more (x .grown); laid = ap (laidOut n (x .under)) (at-lower t ts a k) ∙ x .laid }
+        record { under = x .under; number = x .number; grown = more (x .grown); laid = ap (laidOut n (x .under)) (at-lower t ts a k) ∙ x .laid }
 
 -- ---- two equal terms
 pub same-true : (x y : Term) → sameOf x y ≡ true → x ≡ y

@@ -4,7 +4,4 @@ pub mod Does
 pub mod Later
 pub mod Factory
 pub mod States
-pub mod Walk
-pub mod Merge
-pub mod Evaluation
 pub mod Ruled

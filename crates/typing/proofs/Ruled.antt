@@ -11,11 +11,15 @@ use borrow.Author.Tests.{eqb-true, eqb-false, ltb-true, ltb-false, ne-eqb, le-lt
 use Rattle.notation.specs.Notation.{pick, with, if_then_else_, if_equals_then_else_, if_below_then_else_, unless_then_else_}
 use Rattle.operators.specs.Operators.{rowOf, operandsOf}
 use Rattle.semantics.specs.declared.Record.{Record}
-use Rattle.semantics.specs.Numbers.{datumRecord, procedureRecord, operatorRecord, wordDatum, ruleBytes, ruleSize, badRecord, badTree, badPlace}
+use Rattle.semantics.specs.Numbers.{datumRecord, procedureRecord, operatorRecord, wordDatum, recordLimit, ruleBytes, ruleSize, badRecord, badTree, badPlace}
 use Rattle.semantics.specs.Records.{recordAt, recordsIn}
 use Rattle.semantics.specs.Rules.{upTo, badRuleSize, usesOf, shapedOf, linkedOf, scopedOf, testsOf, ruleRefusalOf}
 use Rattle.typing.proofs.Formed.{never, by-test}
-use Rattle.typing.proofs.Evaluation.{Ruled}
+
+pub record Ruled (rule : List ℕ) : Type 0 where
+  pub datum : (i : ℕ) → recordAt rule i .kind ≡ datumRecord → recordAt rule i .op ≤ wordDatum
+  pub operator : (i : ℕ) → recordAt rule i .kind ≡ operatorRecord → recordAt rule i .op ≡ 0 → ⊥
+  pub procedure : (i : ℕ) → recordAt rule i .kind ≡ procedureRecord → i < recordLimit
 
 up-at : (n : ℕ) (f : ℕ → Bool) → upTo n f ≡ true → (i : ℕ) → i < n → f i ≡ true
 unfolding upTo if_then_else_

@@ -1,2 +1,2 @@
-// Evaluation keeps a table well formed and its answers of their kinds, and gives the same with the code's search
-// for equal terms as with document 01's. Proofs only, no code.
+// Well-formed tables, on which the code's search for equal terms finds what document 01's finds, and the logic of the
+// steps that keep them so. Proofs only, no code.
