@@ -21,7 +21,7 @@ use Rattle.semantics.specs.Run.{Value, truth, word, Ended, gives, aborts, errs,
 use Rattle.semantics.specs.History.{ranOn}
 use Rattle.typing.proofs.Formed.{never}
 use Rattle.typing.proofs.Does.{Fit}
-use Rattle.typing.proofs.Ruled.{Ruled}
+use Rattle.typing.proofs.Ruled.{tested, Ruled}
 use Rattle.depth.proofs.Depth.{depth-enough}
 use Rattle.soundness.proofs.Means.{isProper}
 use Rattle.soundness.proofs.Constants.{Const}
@@ -29,7 +29,7 @@ use Rattle.soundness.proofs.Held.{MeansBindings}
 use Rattle.soundness.proofs.Sim.{ends, on, afterSeen, on-after, on-off, on-live, ends-same, totalOf, Sim, sim-halt, sim-as}
 use Rattle.soundness.proofs.Readout.{Done, evaluation-at, evaluation-spent}
 use Rattle.soundness.proofs.Scope.{bound, Good, GoodValue, GoodEnd, Agree, run-agrees}
-use Rattle.soundness.proofs.Scoping.{needOf, few-some, scoped}
+use Rattle.soundness.proofs.Scoping.{needOf, scoped}
 
 -- ---- the inputs are truths and words, sixteen of them
 module _ (rule : List ℕ) (n : ℕ) (need : ℕ → ℕ) where
@@ -65,7 +65,7 @@ module _ (s : List ℕ) (h : ruleRefusalOf s ≡ 0) (xs : List Input) (ns : List
   rule-agrees : Agree s (recordsIn s) (needOf s) (totalOf s d 0 (inputsBound xs ns)) (runOf s d 0 (inputsBound xs ns))
   rule-agrees =
       let z = none-needed s in let b = inputs-bound xs ns (omega arith) in
-      run-agrees s (recordsIn s) (needOf s) (scoped s h) d 0 (inputsBound xs ns) (few-some s h) (omega arith) (inputs-good s (recordsIn s) (needOf s) xs ns)
+      run-agrees s (recordsIn s) (needOf s) (scoped s h) d 0 (inputsBound xs ns) (tested s h .some) (omega arith) (inputs-good s (recordsIn s) (needOf s) xs ns)
 
   -- It runs as the concrete run does,
   pub rule-runs : totalOf s d 0 (inputsBound xs ns) ≡ runOf s d 0 (inputsBound xs ns)

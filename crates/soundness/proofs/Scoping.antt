@@ -1,20 +1,21 @@
 -- A rule that passes the tests 4 to 7 has its places in scope: each record but the first is told its bindings by the one record that it is a
 -- part of. Assumes nothing.
 use mathlib.Core.Path.{_≡_, refl, sym, ap, _∙_}
-use mathlib.Core.Bool.{Bool, true, false, not, _||_}
+use mathlib.Core.Bool.{Bool, true, false}
 use mathlib.Core.List.{List, [], _∷_}
-use Prim.Native.Nat.{ℕ, zero, suc, _+_, _%_, _<_, _≤_}
+use Prim.Native.Nat.{ℕ, zero, suc, _+_, _<_, _≤_}
 use native.Mathlib.Omega.{arith}
 use lib.ListN.{length, getD, set, length-set, length-replicate}
 use lib.Dec.{eqb, ltb}
-use borrow.Author.Tests.{eqb-true, eqb-false, eq-eqb, ne-eqb, ltb-true, ltb-false}
-use Rattle.notation.specs.Notation.{pick, with, if_then_else_, if_equals_then_else_, unless_then_else_}
+use borrow.Author.Tests.{eqb-true, eqb-false, eq-eqb, ne-eqb, ltb-true}
+use Rattle.notation.specs.Notation.{pick, with, if_then_else_, if_equals_then_else_}
 use Rattle.operators.specs.Operators.{operandsOf}
 use Rattle.semantics.specs.declared.Record.{Record}
-use Rattle.semantics.specs.Numbers.{variableRecord, procedureRecord, callRecord, operatorRecord, letRecord, ifRecord, inputCount, recordLimit, ruleBytes, ruleSize, badRecord, badTree, badPlace}
+use Rattle.semantics.specs.Numbers.{variableRecord, procedureRecord, callRecord, operatorRecord, letRecord, ifRecord, inputCount, recordLimit}
 use Rattle.semantics.specs.Records.{recordAt, recordsIn}
-use Rattle.semantics.specs.Rules.{upTo, every, badRuleSize, shapedOf, Part, part, partsOf, insideOf, timesIn, timesBelow, onceOf, linkedOf, placesOf, toldOf, bindingsBelow, scopedOf, testsOf, ruleRefusalOf}
+use Rattle.semantics.specs.Rules.{every, Part, part, partsOf, insideOf, timesIn, timesBelow, onceOf, linkedOf, placesOf, toldOf, bindingsBelow, scopedOf, ruleRefusalOf}
 use Rattle.typing.proofs.Formed.{never, both, by-test}
+use Rattle.typing.proofs.Ruled.{up-at, tested}
 use Rattle.soundness.proofs.Scope.{Under, Scoped}
 
 -- ---- lists
@@ -39,15 +40,6 @@ set-other (x ∷ xs) zero (suc j) a h = refl
 set-other (x ∷ xs) (suc i) zero a h = refl
 set-other (x ∷ xs) (suc i) (suc j) a h = set-other xs i j a (λ e. h (ap suc e))
 
-up-at : (n : ℕ) (f : ℕ → Bool) → upTo n f ≡ true → (i : ℕ) → i < n → f i ≡ true
-unfolding upTo if_then_else_
-up-at zero f h i l = absurd (omega arith)
-up-at (suc n) f h i l = by-test (upTo n f) (f n) false h (λ a b. go a b (eqb i n) refl (λ k. up-at n f a i k)) (λ a b. never b)
-  where
-    go : upTo n f ≡ true → f n ≡ true → (c : Bool) → eqb i n ≡ c → (i < n → f i ≡ true) → f i ≡ true
-    go a b true e r = ap f (eqb-true i n e) ∙ b
-    go a b false e r = r (omega (arith, eqb-false i n e))
-
 -- ---- what a record tells its parts
 module _ (c : ℕ) where
   times-here : (p : Part) (ps : List Part) → c ≡ p .child → timesIn c (p ∷ ps) ≡ 1 + timesIn c ps
@@ -62,7 +54,7 @@ module _ (c : ℕ) where
   in-times {m} (p ∷ ps) here = let e = times-here (part c m) ps refl in omega arith
   in-times (p ∷ ps) (there i) = let r = in-times ps i in let t = times-there p ps in omega arith
 
-  -- another's part
+  -- a part is another record's, if c is a part as often without it
   other : (p : Part) (ps : List Part) (k : ℕ) → timesIn c (p ∷ ps) ≤ k → k ≤ timesIn c ps → c ≡ p .child → ⊥
   other p ps k h l e = let t = times-here p ps e in omega arith
 
@@ -182,41 +174,11 @@ module _ (x : Record) where
 
 -- ---- a rule that passes the tests
 module _ (s : List ℕ) (h : ruleRefusalOf s ≡ 0) where
-  size : badRuleSize (length s) ≡ false
-  unfolding ruleRefusalOf if_then_else_
-  size = go (badRuleSize (length s)) refl h
-    where
-      go : (b : Bool) → badRuleSize (length s) ≡ b → pick b ruleSize (testsOf s (recordsIn s)) ≡ 0 → badRuleSize (length s) ≡ false
-      go true e r = absurd (omega arith)
-      go false e r = e
-
-  few : length s ≤ ruleBytes
-  unfolding badRuleSize
-  few = go (eqb (length s) 0) (ltb ruleBytes (length s)) refl size
-    where
-      go : (a b : Bool) → ltb ruleBytes (length s) ≡ b → (a || (b || not (eqb (length s % 8) 0))) ≡ false → length s ≤ ruleBytes
-      go true b p e = never (sym e)
-      go false true p e = never (sym e)
-      go false false p e = omega (arith, ltb-false ruleBytes (length s) p)
-
-  tests : (upTo (recordsIn s) (linkedOf s (recordsIn s)) ≡ true) × (upTo (recordsIn s) (scopedOf s) ≡ true)
-  unfolding ruleRefusalOf if_then_else_ testsOf unless_then_else_
-  tests = go (badRuleSize (length s)) (upTo (recordsIn s) (λ i. shapedOf (recordAt s i))) (upTo (recordsIn s) (linkedOf s (recordsIn s))) (upTo (recordsIn s) (scopedOf s)) refl refl h
-    where
-      go : (a b c d : Bool) → upTo (recordsIn s) (linkedOf s (recordsIn s)) ≡ c → upTo (recordsIn s) (scopedOf s) ≡ d
-          → pick a ruleSize (pick b (pick c (pick d 0 badPlace) badTree) badRecord) ≡ 0
-          → (upTo (recordsIn s) (linkedOf s (recordsIn s)) ≡ true) × (upTo (recordsIn s) (scopedOf s) ≡ true)
-      go true b c d p q e = absurd (omega arith)
-      go false false c d p q e = absurd (omega arith)
-      go false true false d p q e = absurd (omega arith)
-      go false true true false p q e = absurd (omega arith)
-      go false true true true p q e = (p, q)
-
   -- "Each child's number is greater than its parent's"
   inside : {c m : ℕ} (i : ℕ) → i < recordsIn s → In (part c m) (partsOf (recordAt s i)) → (i < c) × (c < recordsIn s)
   unfolding linkedOf insideOf
   inside {c} {m} i l p =
-      both (every (insideOf i (recordsIn s)) (partsOf (recordAt s i))) (onceOf i (timesBelow s (recordsIn s) i)) (up-at (recordsIn s) (linkedOf s (recordsIn s)) (tests .0) i l) λ a b.
+      both (every (insideOf i (recordsIn s)) (partsOf (recordAt s i))) (onceOf i (timesBelow s (recordsIn s) i)) (up-at (recordsIn s) (linkedOf s (recordsIn s)) (tested s h .linked) i l) λ a b.
       both (ltb i c) (ltb c (recordsIn s)) (every-in (insideOf i (recordsIn s)) (partsOf (recordAt s i)) a p) λ u v.
       (omega (arith, ltb-true i c u), omega (arith, ltb-true c (recordsIn s) v))
 
@@ -224,12 +186,12 @@ module _ (s : List ℕ) (h : ruleRefusalOf s ≡ 0) where
   once : (c : ℕ) → 0 < c → c < recordsIn s → timesBelow s (recordsIn s) c ≡ 1
   unfolding linkedOf onceOf if_equals_then_else_
   once c z l =
-      both (every (insideOf c (recordsIn s)) (partsOf (recordAt s c))) (pick (eqb c 0) true (eqb (timesBelow s (recordsIn s) c) 1)) (up-at (recordsIn s) (linkedOf s (recordsIn s)) (tests .0) c l) λ a b.
+      both (every (insideOf c (recordsIn s)) (partsOf (recordAt s c))) (pick (eqb c 0) true (eqb (timesBelow s (recordsIn s) c) 1)) (up-at (recordsIn s) (linkedOf s (recordsIn s)) (tested s h .linked) c l) λ a b.
       by-test (eqb c 0) true (eqb (timesBelow s (recordsIn s) c) 1) b (λ i e. absurd (omega (arith, eqb-true c 0 i))) (λ i e. eqb-true _ _ e)
 
   under : {c m : ℕ} (i : ℕ) → i < recordsIn s → In (part c m) (partsOf (recordAt s i)) → Under (recordsIn s) (needOf s) c (needOf s i + m)
   under {c} {m} i l p =
-      let j = inside i l p in let a = j .0 in let b = j .1 in let f = few in
+      let j = inside i l p in let a = j .0 in let b = j .1 in let f = tested s h .few in
       let o = once c (omega arith) b in
       let t = times-mono s c c (recordsIn s) (omega arith) in
       record { low = b; is = told-by s c c i a p (omega arith) (omega arith) }
@@ -240,7 +202,7 @@ module _ (s : List ℕ) (h : ruleRefusalOf s ≡ 0) where
   place : {p : ℕ} (i : ℕ) → i < recordsIn s → In p (placesOf (recordAt s i)) → p < needOf s i + inputCount
   unfolding scopedOf with
   place {p} i l q =
-      let e = every-in (λ p. ltb p (needOf s i + inputCount)) (placesOf (recordAt s i)) (up-at (recordsIn s) (scopedOf s) (tests .1) i l) q in
+      let e = every-in (λ p. ltb p (needOf s i + inputCount)) (placesOf (recordAt s i)) (up-at (recordsIn s) (scopedOf s) (tested s h .scoped) i l) q in
       omega (arith, ltb-true p (needOf s i + inputCount) e)
 
   pub scoped : Scoped s (recordsIn s) (needOf s)
@@ -257,14 +219,3 @@ module _ (s : List ℕ) (h : ruleRefusalOf s ≡ 0) where
     yes = λ i l k. level i l (yes-in (recordAt s i) k);
     no = λ i l k. level i l (no-in (recordAt s i) k);
   }
-
--- it has a record
-pub few-some : (s : List ℕ) → ruleRefusalOf s ≡ 0 → 0 < recordsIn s
-unfolding badRuleSize
-few-some s h = go (eqb (length s) 0) (ltb ruleBytes (length s)) (eqb (length s % 8) 0) refl refl (size s h)
-  where
-    go : (a b c : Bool) → eqb (length s) 0 ≡ a → eqb (length s % 8) 0 ≡ c → (a || (b || not c)) ≡ false → 0 < recordsIn s
-    go true b c p q e = never (sym e)
-    go false true c p q e = never (sym e)
-    go false false false p q e = never (sym e)
-    go false false true p q e = let i = eqb-true (length s % 8) 0 q in omega (arith, eqb-false (length s) 0 p)

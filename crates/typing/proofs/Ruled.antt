@@ -1,6 +1,6 @@
--- What tests 4 and 5 say of a rule that evaluation needs: a datum's op, an operator's code, and that a procedure's record is one of 4,096.
--- Assumes nothing.
-use mathlib.Core.Path.{_≡_, refl, sym, ap, _∙_}
+-- What the tests 4 to 7 say of a rule that passes them, and what evaluation needs of it: a datum's op, an operator's code, and that a procedure's
+-- record is one of 4,096. Assumes nothing.
+use mathlib.Core.Path.{_≡_, refl, ap, _∙_}
 use mathlib.Core.Bool.{Bool, true, false, not, _||_}
 use mathlib.Core.List.{List}
 use Prim.Native.Nat.{ℕ, zero, suc, _*_, _%_, _<_, _≤_}
@@ -16,12 +16,7 @@ use Rattle.semantics.specs.Records.{recordAt, recordsIn}
 use Rattle.semantics.specs.Rules.{upTo, badRuleSize, usesOf, shapedOf, linkedOf, scopedOf, testsOf, ruleRefusalOf}
 use Rattle.typing.proofs.Formed.{never, by-test}
 
-pub record Ruled (rule : List ℕ) : Type 0 where
-  pub datum : (i : ℕ) → recordAt rule i .kind ≡ datumRecord → recordAt rule i .op ≤ wordDatum
-  pub operator : (i : ℕ) → recordAt rule i .kind ≡ operatorRecord → recordAt rule i .op ≡ 0 → ⊥
-  pub procedure : (i : ℕ) → recordAt rule i .kind ≡ procedureRecord → i < recordLimit
-
-up-at : (n : ℕ) (f : ℕ → Bool) → upTo n f ≡ true → (i : ℕ) → i < n → f i ≡ true
+pub up-at : (n : ℕ) (f : ℕ → Bool) → upTo n f ≡ true → (i : ℕ) → i < n → f i ≡ true
 unfolding upTo if_then_else_
 up-at zero f h i l = absurd (omega arith)
 up-at (suc n) f h i l = by-test (upTo n f) (f n) false h (λ p q. go p q (eqb i n) refl (λ k. up-at n f p i k)) (λ p q. never q)
@@ -35,35 +30,34 @@ past-kind : (s : List ℕ) (i : ℕ) → length s ≤ 8 * i → recordAt s i .ki
 unfolding recordAt
 past-kind s i h = List·getD-eq-default s 0 h
 
+-- ---- what each of the tests 4 to 7 says of a rule that passes them
+pub record Tested (s : List ℕ) : Type 0 where
+  pub some : 0 < recordsIn s
+  pub few : length s ≤ ruleBytes
+  pub whole : length s % 8 ≡ 0
+  pub shaped : upTo (recordsIn s) (λ i. shapedOf (recordAt s i)) ≡ true
+  pub linked : upTo (recordsIn s) (linkedOf s (recordsIn s)) ≡ true
+  pub scoped : upTo (recordsIn s) (scopedOf s) ≡ true
+
 module _ (s : List ℕ) (h : ruleRefusalOf s ≡ 0) where
-  size : badRuleSize (length s) ≡ false
-  unfolding ruleRefusalOf if_then_else_
-  size = go (badRuleSize (length s)) refl h
+  pub tested : Tested s
+  unfolding ruleRefusalOf if_then_else_ testsOf unless_then_else_ badRuleSize
+  tested =
+      go (eqb (length s) 0) (ltb ruleBytes (length s)) (eqb (length s % 8) 0) (upTo (recordsIn s) (λ i. shapedOf (recordAt s i))) (upTo (recordsIn s) (linkedOf s (recordsIn s)))
+      (upTo (recordsIn s) (scopedOf s)) refl refl refl refl refl refl h
     where
-      go : (b : Bool) → badRuleSize (length s) ≡ b → pick b ruleSize (testsOf s (recordsIn s)) ≡ 0 → badRuleSize (length s) ≡ false
-      go true e r = absurd (omega arith)
-      go false e r = e
-
-  shaped : upTo (recordsIn s) (λ i. shapedOf (recordAt s i)) ≡ true
-  unfolding ruleRefusalOf if_then_else_ testsOf unless_then_else_
-  shaped = go (badRuleSize (length s)) (upTo (recordsIn s) (λ i. shapedOf (recordAt s i))) refl h
-    where
-      go : (b c : Bool) → upTo (recordsIn s) (λ i. shapedOf (recordAt s i)) ≡ c
-          → pick b ruleSize (pick c (pick (upTo (recordsIn s) (linkedOf s (recordsIn s))) (pick (upTo (recordsIn s) (scopedOf s)) 0 badPlace) badTree) badRecord) ≡ 0
-          → upTo (recordsIn s) (λ i. shapedOf (recordAt s i)) ≡ true
-      go true c e r = absurd (omega arith)
-      go false true e r = e
-      go false false e r = absurd (omega arith)
-
-  few : (length s ≤ ruleBytes) × (length s % 8 ≡ 0)
-  unfolding badRuleSize
-  few = go (eqb (length s) 0) (ltb ruleBytes (length s)) (eqb (length s % 8) 0) refl refl size
-    where
-      go : (a b c : Bool) → ltb ruleBytes (length s) ≡ b → eqb (length s % 8) 0 ≡ c → (a || (b || not c)) ≡ false → (length s ≤ ruleBytes) × (length s % 8 ≡ 0)
-      go true b c p q e = never (sym e)
-      go false true c p q e = never (sym e)
-      go false false false p q e = never (sym e)
-      go false false true p q e = (omega (arith, ltb-false ruleBytes (length s) p), eqb-true _ _ q)
+      go : (a b c p q r : Bool) → eqb (length s) 0 ≡ a → ltb ruleBytes (length s) ≡ b → eqb (length s % 8) 0 ≡ c → upTo (recordsIn s) (λ i. shapedOf (recordAt s i)) ≡ p
+          → upTo (recordsIn s) (linkedOf s (recordsIn s)) ≡ q → upTo (recordsIn s) (scopedOf s) ≡ r
+          → pick (a || (b || not c)) ruleSize (pick p (pick q (pick r 0 badPlace) badTree) badRecord) ≡ 0 → Tested s
+      go true b c p q r _ _ _ _ _ _ e = absurd (omega arith)
+      go false true c p q r _ _ _ _ _ _ e = absurd (omega arith)
+      go false false false p q r _ _ _ _ _ _ e = absurd (omega arith)
+      go false false true false q r _ _ _ _ _ _ e = absurd (omega arith)
+      go false false true true false r _ _ _ _ _ _ e = absurd (omega arith)
+      go false false true true true false _ _ _ _ _ _ e = absurd (omega arith)
+      go false false true true true true i j k x y z e =
+          let m = eqb-true (length s % 8) 0 k in
+          record { some = omega (arith, eqb-false (length s) 0 i); few = omega (arith, ltb-false ruleBytes (length s) j); whole = m; shaped = x; linked = y; scoped = z }
 
   -- a record with a kind stands in the rule
   inside : (i k : ℕ) → recordAt s i .kind ≡ k → eqb k 0 ≡ false → i < recordsIn s
@@ -73,12 +67,12 @@ module _ (s : List ℕ) (h : ruleRefusalOf s ≡ 0) where
       go true p = omega (arith, ltb-true i (recordsIn s) p)
       go false p =
           let j : recordsIn s ≤ i = omega (arith, ltb-false i (recordsIn s) p) in
-          let m = few .1 in
+          let m = tested .whole in
           let z : recordAt s i .kind ≡ 0 = past-kind s i (omega arith) in
           absurd (omega (arith, eqb-false k 0 o))
 
   shape : (i k : ℕ) → recordAt s i .kind ≡ k → eqb k 0 ≡ false → shapedOf (recordAt s i) ≡ true
-  shape i k e o = up-at (recordsIn s) (λ j. shapedOf (recordAt s j)) shaped i (inside i k e o)
+  shape i k e o = up-at (recordsIn s) (λ j. shapedOf (recordAt s j)) (tested .shaped) i (inside i k e o)
 
 -- a record that is shaped uses some of its fields
 uses-some : (x : Record) → shapedOf x ≡ true → usesOf x ≡ 4 → ⊥
@@ -103,10 +97,16 @@ operator-some : (x : Record) → shapedOf x ≡ true → x .kind ≡ operatorRec
 unfolding usesOf if_equals_then_else_ if_below_then_else_ with operandsOf rowOf
 operator-some x h k o = uses-some x h (rw (k, o))
 
+-- ---- what evaluation needs of a rule
+pub record Ruled (rule : List ℕ) : Type 0 where
+  pub datum : (i : ℕ) → recordAt rule i .kind ≡ datumRecord → recordAt rule i .op ≤ wordDatum
+  pub operator : (i : ℕ) → recordAt rule i .kind ≡ operatorRecord → recordAt rule i .op ≡ 0 → ⊥
+  pub procedure : (i : ℕ) → recordAt rule i .kind ≡ procedureRecord → i < recordLimit
+
 pub ruled : (s : List ℕ) → ruleRefusalOf s ≡ 0 → Ruled s
 ruled s h =
     record {
       datum = λ i k. datum-op (recordAt s i) (shape s h i datumRecord k refl) k;
       operator = λ i k. operator-some (recordAt s i) (shape s h i operatorRecord k refl) k;
-      procedure = λ i k. let l = inside s h i procedureRecord k refl in let m = few s h .0 in omega arith;
+      procedure = λ i k. let l = inside s h i procedureRecord k refl in let m = tested s h .few in omega arith;
     }
