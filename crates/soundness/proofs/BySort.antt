@@ -182,69 +182,46 @@ module _ (ns : List ℕ) (f : ℕ → Value) (t : Term) where
   term-word k e (a-binding i) = absurd (omega arith)
   term-word k e no-kind = absurd (omega arith)
 
--- the kind of what is a procedure, a choice or a binding
+-- ---- a term's kind by its sort
 module _ (t : Term) where
-  procedure-kind′ : (k : ℕ) → k ≡ procedureTerm → Kind t k → t .kind ≡ procedureTerm
-  procedure-kind′ k e (constant-truth i) = absurd (omega arith)
-  procedure-kind′ k e (constant-word i) = absurd (omega arith)
-  procedure-kind′ k e (free-truth i) = absurd (omega arith)
-  procedure-kind′ k e (free-word i) = absurd (omega arith)
-  procedure-kind′ k e (truth-operator i j) = absurd (omega arith)
-  procedure-kind′ k e (word-operator i j) = absurd (omega arith)
-  procedure-kind′ k e (a-choice i) = absurd (omega arith)
-  procedure-kind′ k e (a-procedure i) = i
-  procedure-kind′ k e (a-binding i) = absurd (omega arith)
-  procedure-kind′ k e no-kind = absurd (omega arith)
+  -- a procedure, a choice and a binding have their sort for their kind; a truth and a word may be free, or an operator's
+  own-kind : (k : ℕ) → wordTerm < k → Kind t k → t .kind ≡ k
+  own-kind k h (constant-truth i) = i
+  own-kind k h (constant-word i) = i
+  own-kind k h (free-truth i) = absurd (omega arith)
+  own-kind k h (free-word i) = absurd (omega arith)
+  own-kind k h (truth-operator i j) = absurd (omega arith)
+  own-kind k h (word-operator i j) = absurd (omega arith)
+  own-kind k h (a-choice i) = i
+  own-kind k h (a-procedure i) = i
+  own-kind k h (a-binding i) = i
+  own-kind k h no-kind = absurd (omega arith)
 
-  choice-kind′ : (k : ℕ) → k ≡ choiceTerm → Kind t k → t .kind ≡ choiceTerm
-  choice-kind′ k e (constant-truth i) = absurd (omega arith)
-  choice-kind′ k e (constant-word i) = absurd (omega arith)
-  choice-kind′ k e (free-truth i) = absurd (omega arith)
-  choice-kind′ k e (free-word i) = absurd (omega arith)
-  choice-kind′ k e (truth-operator i j) = absurd (omega arith)
-  choice-kind′ k e (word-operator i j) = absurd (omega arith)
-  choice-kind′ k e (a-choice i) = i
-  choice-kind′ k e (a-procedure i) = absurd (omega arith)
-  choice-kind′ k e (a-binding i) = absurd (omega arith)
-  choice-kind′ k e no-kind = absurd (omega arith)
-
-  binding-kind′ : (k : ℕ) → k ≡ bindingTerm → Kind t k → t .kind ≡ bindingTerm
-  binding-kind′ k e (constant-truth i) = absurd (omega arith)
-  binding-kind′ k e (constant-word i) = absurd (omega arith)
-  binding-kind′ k e (free-truth i) = absurd (omega arith)
-  binding-kind′ k e (free-word i) = absurd (omega arith)
-  binding-kind′ k e (truth-operator i j) = absurd (omega arith)
-  binding-kind′ k e (word-operator i j) = absurd (omega arith)
-  binding-kind′ k e (a-choice i) = absurd (omega arith)
-  binding-kind′ k e (a-procedure i) = absurd (omega arith)
-  binding-kind′ k e (a-binding i) = i
-  binding-kind′ k e no-kind = absurd (omega arith)
-
-  -- a constant that is a truth is one of the two
-  constant-kind′ : isConstant t ≡ true → (k : ℕ) → k ≡ truthTerm → Kind t k → t .kind ≡ truthTerm
+  -- every constant has its sort for its kind
+  constant-own : isConstant t ≡ true → (k : ℕ) → (k ≡ 0 → ⊥) → Kind t k → t .kind ≡ k
   unfolding isConstant if_equals_then_else_
-  constant-kind′ c k e (constant-truth i) = i
-  constant-kind′ c k e (constant-word i) = absurd (omega arith)
-  constant-kind′ c k e (free-truth i) = never (rw i at c)
-  constant-kind′ c k e (free-word i) = absurd (omega arith)
-  constant-kind′ c k e (truth-operator i j) = never (rw i at c)
-  constant-kind′ c k e (word-operator i j) = absurd (omega arith)
-  constant-kind′ c k e (a-choice i) = absurd (omega arith)
-  constant-kind′ c k e (a-procedure i) = absurd (omega arith)
-  constant-kind′ c k e (a-binding i) = absurd (omega arith)
-  constant-kind′ c k e no-kind = absurd (omega arith)
+  constant-own c k h (constant-truth i) = i
+  constant-own c k h (constant-word i) = i
+  constant-own c k h (free-truth i) = never (rw i at c)
+  constant-own c k h (free-word i) = never (rw i at c)
+  constant-own c k h (truth-operator i j) = never (rw i at c)
+  constant-own c k h (word-operator i j) = never (rw i at c)
+  constant-own c k h (a-choice i) = i
+  constant-own c k h (a-procedure i) = i
+  constant-own c k h (a-binding i) = i
+  constant-own c k h no-kind = absurd (h refl)
 
   pub procedure-kind : sortOf t ≡ procedureTerm → t .kind ≡ procedureTerm
-  procedure-kind e = procedure-kind′ (sortOf t) e (kind-of t)
+  procedure-kind e = own-kind (sortOf t) (omega arith) (kind-of t) ∙ e
 
   pub choice-kind : sortOf t ≡ choiceTerm → t .kind ≡ choiceTerm
-  choice-kind e = choice-kind′ (sortOf t) e (kind-of t)
+  choice-kind e = own-kind (sortOf t) (omega arith) (kind-of t) ∙ e
 
   pub binding-kind : sortOf t ≡ bindingTerm → t .kind ≡ bindingTerm
-  binding-kind e = binding-kind′ (sortOf t) e (kind-of t)
+  binding-kind e = own-kind (sortOf t) (omega arith) (kind-of t) ∙ e
 
-  pub constant-kind : isConstant t ≡ true → sortOf t ≡ truthTerm → t .kind ≡ truthTerm
-  constant-kind c e = constant-kind′ c (sortOf t) e (kind-of t)
+  pub constant-kind : isConstant t ≡ true → (k : ℕ) → (k ≡ 0 → ⊥) → sortOf t ≡ k → t .kind ≡ k
+  constant-kind c k h e = constant-own c (sortOf t) (λ z. h (sym e ∙ z)) (kind-of t) ∙ e
 
 -- ---- a table's numbers
 module _ {n : ℕ} {ts : List Term} (ns : List ℕ) (f : Fit n ts) where

@@ -77,14 +77,17 @@ proper-at ns n (t ∷ ts) x h k = formed-newest n t ts h λ p u v. go p (eqb x (
         ap isProper (meaning-lower ns t ts x (λ z. omega arith)) ∙ r x (named-lower k i)
 
 -- ---- what a number is held to mean
+-- x is the number of a truth, and means b
 pub record MeansTruth (ns : List ℕ) (b : Bool) (ts : List Term) (x : ℕ) : Type 0 where
   pub sort : Sort truthTerm ts x
   pub is : meaning ns ts x ≡ truth b
 
+-- x is the number of a value, which is no binding, and means v
 pub record MeansValue (ns : List ℕ) (v : Value) (ts : List Term) (x : ℕ) : Type 0 where
   pub named : Named ts x
   pub is : meaning ns ts x ≡ v
 
+-- x is the number of a binding, and the chain of bindings from there on is v
 pub record MeansBindings (ns : List ℕ) (v : Value) (ts : List Term) (x : ℕ) : Type 0 where
   pub sort : Sort bindingTerm ts x
   pub is : meaning ns ts x ≡ v
@@ -113,7 +116,7 @@ module _ {ns : List ℕ} {n : ℕ} {ts : List Term} (f : Fit n ts) where
   pub true-means : MeansTruth ns true ts trueNumber
   true-means = record { sort = true-truth f; is = there-means ns f (f .yes) ∙ means-truth ns (meaning ns ts) (term truthTerm 0 1 0 0) refl }
 
-  -- any truth means one or the other
+  -- any truth means true or false
   pub some-truth : {x : ℕ} → Sort truthTerm ts x → MeansTruth ns (isTrue (meaning ns ts x)) ts x
   some-truth h = record { sort = h; is = truth-means ns f h .is }
 
@@ -152,4 +155,4 @@ module _ {ns : List ℕ} {n : ℕ} {ts : List Term} {x : ℕ} {b : Bool} (f : Fi
 
   -- a truth that is not known is no constant
   pub unknown : {P : Type 0} → (knownOf (at ts x) ≡ 0 → ⊥) → (knownOf (at ts x) ≡ 1 → ⊥) → Const ts → P
-  unknown a c k = known-some (at ts x) (constant-kind (at ts x) (const-at ts x k (h .sort .low)) (h .sort .is)) a c
+  unknown a c k = known-some (at ts x) (constant-kind (at ts x) (const-at ts x k (h .sort .low)) truthTerm (λ e. omega arith) (h .sort .is)) a c

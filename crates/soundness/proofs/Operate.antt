@@ -11,7 +11,7 @@ use Rattle.notation.specs.Notation.{pick, bit, if_then_else_, if_equals_then_el
 use Rattle.operators.specs.Operators.{operandsOf, givesTruthOf, rowOf, operateOf}
 use Rattle.semantics.specs.declared.Term.{Term}
 use Rattle.semantics.specs.Numbers.{wordTerm, operatorTerm, notCode, falseNumber, trueNumber, tableFull}
-use Rattle.semantics.specs.Terms.{term, termWord, truthNumber, at, sortOf}
+use Rattle.semantics.specs.Terms.{term, termWord, truthNumber, at}
 use Rattle.semantics.specs.Steps.{makeOf}
 use Rattle.semantics.specs.Factory.{constantOf, operatorTermOf}
 use Rattle.semantics.specs.Run.{Value, truth, word, isAWord, wordIn, operationValue, wordsRun}
@@ -21,7 +21,7 @@ use Rattle.typing.proofs.Does.{Fit, does-give, does-weaken, does-read, does-wit
 use Rattle.typing.proofs.Factory.{Operands, laid-operator, operator-value}
 use Rattle.soundness.proofs.Means.{operatorMeaning, meaning, meaning-grown}
 use Rattle.soundness.proofs.Constants.{isConstant, Const, const-at, Step, Does, does-make-constant}
-use Rattle.soundness.proofs.BySort.{Kind, constant-truth, constant-word, free-truth, free-word, truth-operator, word-operator, a-choice, a-procedure, a-binding, no-kind, kind-of, means-word, means-at, there-means, truth-means, procedure-means}
+use Rattle.soundness.proofs.BySort.{constant-kind, means-word, means-at, there-means, truth-means, procedure-means}
 use Rattle.soundness.proofs.Held.{MeansValue, truth-is-value, value-step, false-means, true-means}
 use Rattle.soundness.proofs.Factory.{mean-operator, no-choice, by-sort, word-does}
 
@@ -30,17 +30,17 @@ use Rattle.soundness.proofs.Factory.{mean-operator, no-choice, by-sort,
 other : (op k : ℕ) → givesTruthOf op ≡ true → givesTruthOf k ≡ false → eqb op k ≡ false
 other op k h e = ne-eqb op k (λ i. never (sym e ∙ (ap givesTruthOf (sym i) ∙ h)))
 
--- and then it gives 0 or 1
+-- an operator that gives a truth gives 0 or 1
 pub truth-bit : (op x y : ℕ) → givesTruthOf op ≡ true → operateOf op x y ≡ pick (eqb op 11) (bit (ltb x y)) (bit (eqb x y))
 unfolding operateOf if_equals_then_else_ givesTruthOf rowOf
 truth-bit op x y h =
     rw (other op 1 h refl, other op 2 h refl, other op 3 h refl, other op 4 h refl, other op 5 h refl, other op 6 h refl, other op 7 h refl, other op 8 h refl, other op 9 h refl, other op 10 h refl)
 
--- one with one operand is none of the others
+-- a code that has one operand is none of the codes that have another count
 differs : (op k m : ℕ) → operandsOf op ≡ 1 → operandsOf k ≡ m → (m ≡ 1 → ⊥) → op ≡ k → ⊥
 differs op k m h e d i = d (sym e ∙ (ap operandsOf (sym i) ∙ h))
 
--- the two codes that have one
+-- the two codes that have one operand
 from-three : (op : ℕ) → operandsOf op ≡ 1 → 3 ≤ op
 unfolding operandsOf rowOf
 from-three op h = omega (arith, differs op 0 0 h refl (λ i. omega arith), differs op 1 2 h refl (λ i. omega arith), differs op 2 2 h refl (λ i. omega arith))
@@ -57,7 +57,7 @@ only-two : (op : ℕ) → op < notCode → operandsOf op ≡ 1 → (op ≡ 9 →
 unfolding operandsOf rowOf
 only-two op l h e = let k = from-nine op h in omega (arith, e, differs op 11 2 h refl (λ i. omega arith), differs op 12 2 h refl (λ i. omega arith))
 
--- and they do not look at a second
+-- an operator that has one operand does not look at a second
 pub one-operand : (op x y z : ℕ) → op < notCode → operandsOf op ≡ 1 → operateOf op x y ≡ operateOf op x z
 unfolding operateOf if_equals_then_else_
 one-operand op x y z l h = go (eqb op 9) refl
@@ -108,26 +108,13 @@ module _ (op : ℕ) (v w : Value) where
   words-second h d = rw (words-first h, ne-eqb _ _ d) at h
 
 -- ---- a constant that is a word
-module _ (t : Term) where
-  constant-word-kind : isConstant t ≡ true → (k : ℕ) → k ≡ wordTerm → Kind t k → t .kind ≡ wordTerm
-  unfolding isConstant if_equals_then_else_
-  constant-word-kind c k e (constant-truth i) = absurd (omega arith)
-  constant-word-kind c k e (constant-word i) = i
-  constant-word-kind c k e (free-truth i) = absurd (omega arith)
-  constant-word-kind c k e (free-word i) = never (rw i at c)
-  constant-word-kind c k e (truth-operator i j) = absurd (omega arith)
-  constant-word-kind c k e (word-operator i j) = never (rw i at c)
-  constant-word-kind c k e (a-choice i) = absurd (omega arith)
-  constant-word-kind c k e (a-procedure i) = absurd (omega arith)
-  constant-word-kind c k e (a-binding i) = absurd (omega arith)
-  constant-word-kind c k e no-kind = absurd (omega arith)
 
 -- what a number means is a word, and all are constants
 word-constant-kind : {ns : List ℕ} {n : ℕ} {ts : List Term} {x : ℕ} {v : Value} → Fit n ts → MeansValue ns v ts x → Const ts → isAWord v ≡ true → at ts x .kind ≡ wordTerm
 unfolding isAWord
 word-constant-kind {ns} {n} {ts} {x} {v} f h c w =
     by-sort (h .named) (λ s. never (sym (ap isAWord (sym (h .is) ∙ truth-means ns f s .is)) ∙ w))
-    (λ s. constant-word-kind (at ts x) (const-at ts x c (s .low)) (sortOf (at ts x)) (s .is) (kind-of (at ts x)))
+    (λ s. constant-kind (at ts x) (const-at ts x c (s .low)) wordTerm (λ e. omega arith) (s .is))
     (λ s. no-choice s c) (λ s. never (sym (ap isAWord (sym (h .is) ∙ procedure-means ns f s)) ∙ w))
 
 -- a word constant
