@@ -33,7 +33,7 @@ pub adds-grown : {r : ℕ} {ts us : List Term} → Adds r ts us → Grown ts us
 adds-grown none = still
 adds-grown (one n l q) = more (adds-grown q)
 
--- within the room, if it was before
+-- a table that was within the room is so still
 pub adds-within : {r : ℕ} {ts us : List Term} → Adds r ts us → length ts ≤ r → length us ≤ r
 adds-within none h = h
 adds-within (one n l q) h = omega arith
@@ -42,7 +42,7 @@ adds-within (one n l q) h = omega arith
 abbrev roomy : ℕ → Setting
 roomy r = record { room = r; search = findOf }
 
--- with room for r, and with more: the same, unless the table was full
+-- What a step gives where there is room for r terms, beside what it gives where there is more room: the same, unless the table was full.
 data Longer (r : ℕ) (ts : List Term) {A : Type 0} : Got A → Got A → Type 0 where
   added : {us : List Term} {a : A} {u : ℕ} → Adds r ts us → Longer r ts (gave us a u) (gave us a u)
   same : {k : ℕ} → Longer r ts (refused k) (refused k)
@@ -66,7 +66,7 @@ longer-on p (added q) = added (adds-on p q)
 longer-on p same = same
 longer-on p full = full
 
--- each form of a step
+-- each form of a step gives the same with more room, if its parts do
 module _ (r q : ℕ) (h : r ≤ q) where
   then-longer : {A B : Type 0} {m l : Make A} {f g : A → Make B} → Lengthens r q m l → ((a : A) → Lengthens r q (f a) (g a)) → Lengthens r q (m >>= f) (l >>= g)
   unfolding _>>=_

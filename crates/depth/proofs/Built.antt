@@ -209,7 +209,7 @@ module _ (R : (A : Type 0) → Make A → Make A → Type 0) (kept : Congruence 
   unfolding forkOf
   kept-fork g x = kept .going-on (kept-not g) (λ h. kept .going-on (kept-assume x g) (λ y. kept-map _ (kept-assume x h)))
 
-  -- ---- expressions, with parts of which it holds
+  -- ---- expressions, over two evaluations of the parts that the relation holds between
   module _ (rule : List ℕ) (b : ℕ) (run far : Run) (parts : (i e : ℕ) (x : State) → R _ (run i e x) (far i e x)) where
     kept-under : (q v e : ℕ) (x : State) → R _ (underOf run q v e x) (underOf far q v e x)
     unfolding noFree underOf

@@ -16,7 +16,8 @@ use Rattle.semantics.specs.Steps.{Setting, Got, gave, refused, Make, deeper, ne
 use Rattle.semantics.specs.Evaluation.{liveOf, evalOf}
 use Rattle.depth.proofs.Built.{Congruence, kept-live}
 
--- with at most the depth k, and with more
+-- What a step gives where it may use the depth k, beside what it gives where it may use more: the same if it uses no more than k, and else
+-- the refusal for depth.
 pub data Cut (k : ℕ) {A : Type 0} : Got A → Got A → Type 0 where
   same : {ts : List Term} {a : A} {u : ℕ} → u ≤ k → Cut k (gave ts a u) (gave ts a u)
   deep : {ts : List Term} {a : A} {u : ℕ} → k < u → Cut k (refused depthSpent) (gave ts a u)
@@ -25,7 +26,7 @@ pub data Cut (k : ℕ) {A : Type 0} : Got A → Got A → Type 0 where
 pub record Cuts (k : ℕ) {A : Type 0} (m l : Make A) : Type 0 where
   pub at : (z : Setting) (ts : List Term) → Cut k (m z ts) (l z ts)
 
--- once a depth is used
+-- after a step that used the depth u, and one level up
 module _ {k : ℕ} {A : Type 0} where
   cut-deeper : {x y : Got A} (u : ℕ) → u ≤ k → Cut k x y → Cut k (deeper u x) (deeper u y)
   cut-deeper u h (same {u = w} l) = same {u = max u w} (omega arith)
@@ -85,7 +86,7 @@ eval-cuts rule b (suc k) (suc d) h i e y =
 
 -- ---- the reported depth
 module _ (rule : List ℕ) (b i e : ℕ) (y : State) (z : Setting) (ts : List Term) where
-  -- at a larger depth the same
+  -- an evaluation gives at a larger depth what it gave
   pub same-above : (k d : ℕ) → k ≤ d → {us : List Term} {r : Result} {u : ℕ} → evalOf rule b k i e y z ts ≡ gave us r u → evalOf rule b d i e y z ts ≡ gave us r u
   same-above k d h {us} {r} {u} q = go _ _ (eval-cuts rule b k d h i e y .at z ts) q
     where
@@ -95,7 +96,7 @@ module _ (rule : List ℕ) (b i e : ℕ) (y : State) (z : Setting) (ts : List Te
       go v w stop p = let n : _≡_ {A = ℕ} 0 1 = cc in absurd (omega arith)
 
   module _ (d : ℕ) {us : List Term} {r : Result} {u : ℕ} (q : evalOf rule b d i e y z ts ≡ gave us r u) where
-    -- it is at most the allowance
+    -- the depth that an evaluation reports is at most its allowance
     pub depth-within : u ≤ d
     depth-within = go _ _ (eval-cuts rule b d d (omega arith) i e y .at z ts) q
       where
@@ -104,7 +105,7 @@ module _ (rule : List ℕ) (b i e : ℕ) (y : State) (z : Setting) (ts : List Te
         go v w (deep l) p = let n : _≡_ {A = ℕ} 0 1 = cc in absurd (omega arith)
         go v w stop p = let n : _≡_ {A = ℕ} 0 1 = cc in absurd (omega arith)
 
-    -- with that depth the result is the same
+    -- the evaluation with that depth for its allowance gives the same result
     pub depth-enough : evalOf rule b u i e y z ts ≡ gave us r u
     depth-enough = go _ _ (eval-cuts rule b u d depth-within i e y .at z ts) q
       where
@@ -113,7 +114,7 @@ module _ (rule : List ℕ) (b i e : ℕ) (y : State) (z : Setting) (ts : List Te
         go v w (deep {u = x} l) p = let n : x ≡ u = cc in absurd (omega arith)
         go v w stop p = let n : _≡_ {A = ℕ} 0 1 = cc in absurd (omega arith)
 
-    -- and with less it is refused by 12
+    -- the evaluation with any smaller allowance is refused by 12
     pub depth-least : (k : ℕ) → k < u → evalOf rule b k i e y z ts ≡ refused depthSpent
     depth-least k h = let n = depth-within in go _ _ (eval-cuts rule b k d (omega arith) i e y .at z ts) q
       where
@@ -122,7 +123,7 @@ module _ (rule : List ℕ) (b i e : ℕ) (y : State) (z : Setting) (ts : List Te
         go v w (deep l) p = refl
         go v w stop p = let n : _≡_ {A = ℕ} 0 1 = cc in absurd (omega arith)
 
-    -- it is 1 or more
+    -- the depth that an evaluation reports is 1 or more
     pub depth-some : 1 ≤ u
     unfolding evalOf refuse
     depth-some = go u depth-enough

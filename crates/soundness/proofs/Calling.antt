@@ -67,7 +67,7 @@ or-no false true true r k = never (sym (k refl))
 or-no false true false r k = refl
 or-no false false g r k = refl
 
--- a truth that with the rest comes to all
+-- x means a truth that, or'ed with the rest, is all
 record Ored (ns : List ℕ) (rest all : Bool) (ts : List Term) (x : ℕ) : Type 0 where
   has : Bool
   is : MeansTruth ns has ts x

@@ -84,7 +84,7 @@ module _ (op : ℕ) (v w : Value) where
 abbrev pub operated : ℕ → Value → Value → Ended
 operated op v w = pick (wordsRun op v w) (gives (operatorMeaning op v w)) errs
 
--- as the run gives
+-- what the operator gives on its operands is what the run gives, whatever is taken for a second operand that there is none of
 pub operated-is : (op : ℕ) (v w u : Value) → op < notCode → ((operandsOf op ≡ 1 → ⊥) → w ≡ u) → operated op v w ≡ operatorRun op v u
 unfolding operatorRun if_below_then_else_ if_then_else_
 operated-is op v w u l q = rw (lt-ltb op notCode l, sym (words-same op v w u q)) (go (wordsRun op v w) refl)

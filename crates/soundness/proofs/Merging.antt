@@ -22,7 +22,7 @@ use Rattle.soundness.proofs.Held.{MeansTruth, MeansValue, truth-step, v
 use Rattle.soundness.proofs.Factory.{choice-does}
 use Rattle.soundness.proofs.Sim.{Seen, ends, broken, on, StateMeans, state-step, Sim, on-off, stops-dead, runs-live, merge-assumed-does, merge-asserted-does, sim-out, sim-halt}
 
--- what a branch reads as
+-- what a branch reads as: its guard, S, T and value, and whether it halted
 pub record BranchReading : Type 0 where
   pub g : Bool
   pub s : Bool
@@ -30,6 +30,7 @@ pub record BranchReading : Type 0 where
   pub v : Value
   pub h : Bool
 
+-- The branch b reads as x; if its guard holds, it reads as the outcome o.
 pub record BranchMeans (ns : List ℕ) (ts : List Term) (o : Seen) (b : Branch) (x : BranchReading) : Type 0 where
   pub guard : MeansTruth ns (x .g) ts (b .guard)
   pub state : StateMeans ns (x .s) (x .t) ts (b .state)

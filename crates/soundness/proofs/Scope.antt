@@ -120,7 +120,7 @@ module _ (rule : List ℕ) (n : ℕ) (need : ℕ → ℕ) where
       go true = record { proper = refl; good = tt }
       go false = record { proper = refl; good = tt }
 
-  -- ---- one way or the other
+  -- ---- runs that agree, after a test and after another run
   record AgreeAt (E : Value) (f g : Running) : Type 0 where
     is : Agree (f E) (g E)
 

@@ -65,12 +65,14 @@ on true false o = ends errs
 on false true o = ends aborts
 on false false o = broken
 
+-- what S means once x is assumed, and what T means once x is asserted, in a state whose formulas mean s and t
 abbrev pub assumed : Bool → Bool → Bool → Bool
 assumed s t x = s && (not t || x)
 
 abbrev pub asserted : Bool → Bool → Bool → Bool
 asserted s t x = t && (not s || x)
 
+-- S means s, and T means t
 pub record StateMeans (ns : List ℕ) (s t : Bool) (ts : List Term) (x : State) : Type 0 where
   pub S : MeansTruth ns s ts (x .assumed)
   pub T : MeansTruth ns t ts (x .asserted)

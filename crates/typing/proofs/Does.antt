@@ -36,17 +36,18 @@ unfolding wellFormed
 fit-more f h k l =
     record { formed = rw (h .is, k, f .formed); no = there-grown (more still) (f .no); yes = there-grown (more still) (f .yes); short = omega arith }
 
--- ---- what comes of a table: K, where it held, holds still
+-- What a step leaves of a table: it grew, it fits, and if K held of it before, K holds of it now.
 pub record StepKeeping (K : List Term → Type 0) (n : ℕ) (ts us : List Term) : Type 0 where
   pub grown : Grown ts us
   pub fit : Fit n us
   pub keeps : K ts → K us
 
+-- What a step gives in two settings: in both the same terms, answer and depth, with Q of the answer; or in both the same refusal, with N of it.
 pub data Post {A : Type 0} (K : List Term → Type 0) (n : ℕ) (ts : List Term) (Q : List Term → A → Type 0) (N : ℕ → Type 0) : Got A → Got A → Type 0 where
   did : {us : List Term} {a : A} {u : ℕ} → StepKeeping K n ts us → Q us a → Post K n ts Q N (gave us a u) (gave us a u)
   not-did : {k : ℕ} → N k → Post K n ts Q N (refused k) (refused k)
 
--- on a table of l bytes
+-- The step m, from the terms ts of a table of l bytes, with the code's search and with document 01's.
 pub record DoesKeeping (K : List Term → Type 0) (l n : ℕ) {A : Type 0} (m : Make A) (ts : List Term) (Q : List Term → A → Type 0) (N : ℕ → Type 0) : Type 0 where
   pub post : Post K n ts Q N (m (codeSetting l) ts) (m (settingOf l) ts)
 
@@ -122,7 +123,7 @@ module _ {K : List Term → Type 0} {l n : ℕ} {N : ℕ → Type 0} where
   unfolding up
   does-up d = record { post = post-up (d .post) }
 
-  -- one way or the other
+  -- a step after a test, by what the test gave
   module _ {A : Type 0} {x y : Make A} {ts : List Term} {Q : List Term → A → Type 0} where
     pub does-if : (b : Bool) → (b ≡ true → DoesKeeping K l n x ts Q N) → (b ≡ false → DoesKeeping K l n y ts Q N) → DoesKeeping K l n (if b then x else y) ts Q N
     unfolding if_then_else_
@@ -159,7 +160,7 @@ module _ {K : List Term → Type 0} {l n : ℕ} {N : ℕ → Type 0} where
           (record { low = omega arith; is = at-newest t ts })
       go false false p q = not-did e
 
--- the same with another word for a refusal
+-- what is said of a refusal may be weakened
 pub does-refused : {K : List Term → Type 0} {l n : ℕ} {A : Type 0} {m : Make A} {ts : List Term} {Q : List Term → A → Type 0} {N M : ℕ → Type 0} → Fit n ts
     → ((i : ℕ) → N i → M i) → DoesKeeping K l n m ts Q N → DoesKeeping K l n m ts Q M
 does-refused f k d = record { post = post-weaken (stay f) (λ ws a g q. q) k (d .post) }
