@@ -41,7 +41,7 @@ selfApplication =
 abbrev pub operation : ℕ → ℕ → ℕ → History
 operation op x y = desk (input constantWord x ∷ input constantWord y ∷ falses 14) 1024 (call (bytes operatorRecord op 0 1 0 []) 1 ∷ [])
 
--- the same, of an operator with one operand
+-- an operator on one word, in a rule whose input 0 it is
 abbrev pub operationOnOne : ℕ → ℕ → History
 operationOnOne op x = desk (input constantWord x ∷ falses 15) 1024 (call (bytes operatorRecord op 0 0 0 []) 1 ∷ [])
 

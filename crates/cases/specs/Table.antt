@@ -18,7 +18,7 @@ pub record Case : Type 0 where
 abbrev pub case : List ℕ → List ℕ → Case
 case x y = record { given = x; wanted = y }
 
--- the same numbers
+-- two lists have the same numbers in the same order
 unfoldable pub alike : List ℕ → List ℕ → Bool
 alike [] [] = true
 alike [] (y ∷ ys) = false

@@ -61,7 +61,7 @@ marked-next f s i {m} g et ek = rw (ek, et, add-one) (marked-more f (termAt s i)
 
 -- ---- the search
 
--- it was made
+-- where a search was made, what it found
 pub searched : {a b : Bool} {x y : Found} → a ≡ true → b ≡ true → x ≡ y → x .is ≡ (a && (b && y .is))
 searched h k e = rw (h, k, e)
 

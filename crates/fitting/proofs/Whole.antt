@@ -43,6 +43,6 @@ module _ (x : Session) (s : List ℕ) {b : Bool} (eb : b ≡ badTableSize (lengt
 pub fresh-terms : (xs : List Input) → length xs ≡ 16 → {r c e : ℕ} {y : List ℕ} → Gives (openAll xs) (replicate leastTable 0) 0 r c 0 e y → every inputTaken xs ≡ true → termsIn y c ≡ opening xs .terms
 fresh-terms xs n g t = terms xs (replicate leastTable 0) (replicate leastTable 0) zeros enough t n g
 
--- and input 0's binding there
+-- input 0's binding among the opening's terms, made on 34 records of zeros
 pub fresh-environment : (xs : List Input) → length xs ≡ 16 → {r c e : ℕ} {y : List ℕ} → Gives (openAll xs) (replicate leastTable 0) 0 r c 0 e y → every inputTaken xs ≡ true → e ≡ opening xs .environment
 fresh-environment xs n g t = environment xs (replicate leastTable 0) (replicate leastTable 0) zeros enough t n g

@@ -114,7 +114,7 @@ abbrev pub wordsOf : List ℕ → List ℕ
 wordsOf [] = []
 wordsOf (w ∷ ws) = wordBytesOf w ++ wordsOf ws
 
--- inputs, cut as above
+-- inputs: for each its kind, a zero, and its value
 abbrev pub inputBytes : Input → List ℕ
 inputBytes x = x .kind ∷ 0 ∷ wordBytesOf (x .value)
 
@@ -122,6 +122,6 @@ unfoldable pub inputsBytes : List Input → List ℕ
 inputsBytes [] = []
 inputsBytes (x ∷ xs) = inputBytes x ++ inputsBytes xs
 
--- a session, cut as above
+-- a session: the inputs; count, S, T and accepted rules, two bytes each; the halted mark
 unfoldable pub sessionBytes : Session → List ℕ
 sessionBytes x = inputsBytes (x .inputs) ++ (pairsOf (x .count ∷ x .state .assumed ∷ x .state .asserted ∷ x .accepted ∷ []) ++ (bit (x .halted) ∷ 0 ∷ []))

@@ -49,7 +49,7 @@ pub struct Valued {
     pub found: Found,
 }
 
-// A result, likewise.
+// A result, with a table that then has `count` terms; or a refusal, where it is not 0.
 pub struct Merged {
     pub refusal: u8,
     pub count: u16,

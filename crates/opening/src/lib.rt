@@ -54,7 +54,7 @@ fn input(inputs: [Input; 16], i: u16) -> Input
     }
 }
 
-// Refusal 2 does not come.
+// Whether test 2 takes every input.
 pub fn inputs_taken(inputs: [Input; 16]) -> bool
     ensures { λ r. ⌜ r ≡ every inputTaken inputs ⌝ }
 {

@@ -22,7 +22,7 @@ rowOf op = getD operators op 0
 unfoldable pub operandsOf : ℕ → ℕ
 operandsOf op = rowOf op % 4
 
--- it gives a truth
+-- whether an operator gives a truth
 unfoldable pub givesTruthOf : ℕ → Bool
 givesTruthOf op = ltb 4 (rowOf op)
 

@@ -51,7 +51,7 @@ pub fn field(u: u8, i: u8, v: u16) -> bool
     if i < u { true } else { v == 0 }
 }
 
-// The term with a number, of a table: cut in the same way.
+// The term with a number, of a table, whose records are cut as a rule's are: kind, op and three fields of two bytes.
 pub fn term_at(s: &[u8], i: u16) -> Term
     ensures { λ r. ⌜ r ≡ termAt (now (s .entry)) i ⌝ }
 {

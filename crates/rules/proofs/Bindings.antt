@@ -31,7 +31,7 @@ pub bindings-next : (s : List ℕ) (i : ℕ) {m y : List ℕ} {x : Record} {cs :
 unfolding bindingsBelow with
 bindings-next s i em ex ec ey = rw (add-one, bindingsBelow, ← em, ← ex, ← ec) ey
 
--- its length stays
+-- telling the children their bindings leaves the list as long as it was
 told-length : (d : ℕ) (cs : List Part) (m : List ℕ) → length (toldOf d cs m) ≡ length m
 unfolding toldOf
 told-length d [] m = refl

@@ -116,7 +116,7 @@ module _ (f : ℕ → Bool) where
       go false = refl
   up-more i (suc k) g = let e : suc (suc k) + i ≡ suc (suc k + i) = omega arith in rw (e, upTo, up-more i k g)
 
-  -- it stops at the first that fails
+  -- a test of each record stops at the first that fails
   pub up-stop : (i n : ℕ) → i < n → f i ≡ false → false ≡ upTo n f
   up-stop i n h g = let e : n ≡ suc (n - suc i) + i = omega arith in rw e (sym (up-more i (n - suc i) g))
 

@@ -9,7 +9,7 @@ use Rattle.rules.specs.declared.Children.{Children}
 use Rattle.rules.specs.Passes.{partOf, childrenOf, bumpedOf, markedOf}
 use Rattle.rules.proofs.Follow.{take-two, every-none, every-one, every-two}
 
--- they are the first of its two
+-- the children of a record are the first of the two that it holds
 held : (c : Children) → take (c .count) (partOf (c .first) ∷ partOf (c .second) ∷ []) ≡ childrenOf c
 unfolding childrenOf
 held c = refl

@@ -51,7 +51,7 @@ bump-counts f m c g = record { long = simp length-set (g .long); is = λ j h. go
 counts-as : {f g : ℕ → ℕ} {m : List ℕ} → ((j : ℕ) → f j ≡ g j) → Counts f m → Counts g m
 counts-as e c = record { long = c .long; is = λ j h. c .is j h ∙ ap (min 2) (e j) }
 
--- and so for all children
+-- the counts after all children of a record were marked
 mark-counts : (f : ℕ → ℕ) (cs : List Part) (m : List ℕ) → Counts f m → Counts (λ j. f j + timesIn j cs) (markedOf cs m)
 unfolding markedOf timesIn
 mark-counts f [] m g = counts-as (λ j. omega arith) g

@@ -36,7 +36,7 @@ struct Child {
     more: u16,
 }
 
-// The children of a record: the first `count` of two. What is past the count says nothing.
+// The children of a record: the first `count` of two. What is past the count is never read.
 struct Children {
     count: u8,
     first: Child,
@@ -60,7 +60,8 @@ pub fn refusal(rule: &[u8]) -> u8
     tests(rule, (l / 8) as u16)
 }
 
-// The same of the tests 5 to 7, for a rule of n records. Each goes over all records before the next begins.
+// The number of the first test of 5 to 7 that refuses a rule of n records; 0 where none does. Each test goes over all
+// records before the next begins.
 fn tests(rule: &[u8], n: u16) -> u8
     requires { ⌜ n ≤ recordLimit ⌝ }
     ensures { λ r. ⌜ r ≡ testsOf (now (rule .entry)) n ⌝ }

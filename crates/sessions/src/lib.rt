@@ -136,7 +136,7 @@ pub fn evaluate(session: Session, table: &mut [u8], rule: &[u8], allowance: u16)
     evaluated(session, table, rule, allowance)
 }
 
-// The same halt, and one rule more.
+// A halted session gives its halt again, and has accepted one rule more.
 fn halted_again(session: Session) -> Evaluated
     requires { ⌜ session .accepted < ruleLimit ⌝ }
     ensures { λ r. ⌜ ((s : List ℕ) → (r, s) ≡ haltedAgain session s) ⌝ }

@@ -55,7 +55,7 @@ impl Standing {
         }
     }
 
-    // T likewise.
+    // One branch of a merge: T is and'ed with implies(guard, the branch's T).
     pub fn merge_asserted(self, table: &mut [u8], guard: u16, asserted: u16) -> Standing
         ensures { λ r. ⌜ Gives (mergeAssertedOf (self .state) guard asserted) (now (table .entry)) (self .count) (r .refusal) (r .count) 0 (r .state) (now (table .exit)) ⌝ }
     {

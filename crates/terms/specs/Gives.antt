@@ -28,7 +28,7 @@ pub record Gives {A : Type 0} (m : Make A) (s : List ℕ) (n r c u : ℕ) (a : A
   pub is : shown r (termsIn y c) a u ≡ m (codeSetting (length s)) (termsIn s n)
   pub kept : OnlyAppends s n y c
 
--- the same, with at most the depth d
+-- a step that gives this, and uses at most the depth d
 pub record Within (d : ℕ) {A : Type 0} (m : Make A) (s : List ℕ) (n r c u : ℕ) (a : A) (y : List ℕ) : Type 0 where
   pub gives : Gives m s n r c u a y
   pub low : u ≤ d

@@ -46,7 +46,8 @@ pub struct Gathered {
     pub leaves: [Leaf; numbers::LEAF_LIMIT],
 }
 
-// The same of a call, and the state once it is asserted that one is a target.
+// The leaves under the value of a call, the first `have` of the list, and the state once it is asserted that one is a
+// target.
 pub struct Aimed {
     pub refusal: u8,
     pub count: u16,
@@ -214,7 +215,7 @@ fn left(
     walk(table, leaves, g.count, fuel, g.number, b, have)
 }
 
-// The right side, likewise.
+// The right side of a choice with test a, whose guard has the test's negation, unless that guard is false.
 fn right(
     table: &mut [u8],
     leaves: &mut [u16],

@@ -15,8 +15,8 @@ pub enum Input {
     FreeWord,
 }
 
-/// Refused, by document 01's number. 255, the library's own for a form of another length, does not come: every form is
-/// lent with its length.
+/// Refused, by document 01's number. It is never 255, the library's own for a form of another length: every form is lent
+/// with its length.
 #[derive(Clone, Copy, Debug, PartialEq, Eq)]
 pub struct Refusal(pub u8);
 
