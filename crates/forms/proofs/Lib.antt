@@ -1,3 +1,5 @@
 pub mod Taken
 pub mod Written
 pub mod RoundTrip
+pub mod Lengths
+pub mod Outcomes

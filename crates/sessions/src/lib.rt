@@ -3,18 +3,15 @@
 use semantics::Answer;
 use semantics::Evaluated;
 use semantics::Input;
-use semantics::Result;
 use semantics::Session;
 use semantics::numbers;
 ghost use mathlib.Core.Bool.{true};
 ghost use mathlib.Core.Path.{_≡_};
-ghost use Prim.Native.Nat.{ℕ, _<_};
-ghost use mathlib.Core.List.{List};
+ghost use Prim.Native.Nat.{_<_};
 ghost use Rattle.semantics.specs.Numbers.{ruleLimit};
 ghost use Rattle.semantics.specs.Rules.{ruleRefusalOf};
 ghost use Rattle.semantics.specs.Fits.{fitsOf};
-ghost use Rattle.semantics.specs.Answers.{answerOf};
-ghost use Rattle.semantics.specs.Evaluate.{advanced as «advanced-session», badDepth, haltedAgain, evaluated as «evaluated-by-rules», evaluateOf};
+ghost use Rattle.semantics.specs.Evaluate.{badDepth, evaluated as «evaluated-by-rules», evaluateOf};
 ghost use Rattle.sessions.specs.Entered.{Enters};
 
 // The binding of input 0 on a table that begins with the opening of these inputs.
@@ -33,40 +30,6 @@ fn bad_depth(allowance: u16) -> bool
         return true;
     }
     numbers::ALLOWANCE_LIMIT < allowance
-}
-
-// The session once a rule is accepted.
-fn advanced(session: Session, count: u16, result: Result) -> Session
-    requires { ⌜ session .accepted < ruleLimit ⌝ }
-    ensures { λ r. ⌜ r ≡ «advanced-session» session count result ⌝ }
-{
-    let inputs = session.inputs;
-    let state = result.state;
-    Session {
-        inputs: inputs,
-        count: count,
-        state: state,
-        halted: result.halted,
-        accepted: session.accepted + 1,
-    }
-}
-
-// The answer that an accepted rule's result and depth make.
-fn answer(result: Result, depth: u16) -> Answer
-    ensures { λ r. ⌜ r ≡ answerOf result depth ⌝ }
-{
-    let state = result.state;
-    if result.halted {
-        return Answer::Halt {
-            state: state,
-            depth: depth,
-        };
-    }
-    Answer::Out {
-        state: state,
-        value: result.value,
-        depth: depth,
-    }
 }
 
 // The evaluation by the rules, from record 0. What a refused one wrote behind the count is zeroed.
@@ -96,8 +59,8 @@ fn evaluated(session: Session, table: &mut [u8], rule: &[u8], allowance: u16) ->
     }
     let result = o.result;
     Evaluated {
-        answer: answer(result, o.used),
-        session: advanced(session, o.count, result),
+        answer: acceptance::answer(result, o.used),
+        session: acceptance::advanced(session, o.count, result),
     }
 }
 
@@ -131,27 +94,7 @@ pub fn evaluate(session: Session, table: &mut [u8], rule: &[u8], allowance: u16)
         };
     }
     if session.halted {
-        return halted_again(session);
+        return acceptance::halted_again(session);
     }
     evaluated(session, table, rule, allowance)
-}
-
-// A halted session gives its halt again, and has accepted one rule more.
-fn halted_again(session: Session) -> Evaluated
-    requires { ⌜ session .accepted < ruleLimit ⌝ }
-    ensures { λ r. ⌜ ((s : List ℕ) → (r, s) ≡ haltedAgain session s) ⌝ }
-{
-    let state = session.state;
-    let halt = Result {
-        state: state,
-        value: 0,
-        halted: true,
-    };
-    Evaluated {
-        answer: Answer::Halt {
-            state: state,
-            depth: 1,
-        },
-        session: advanced(session, session.count, halt),
-    }
 }
