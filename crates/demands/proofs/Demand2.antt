@@ -22,7 +22,7 @@ use Rattle.semantics.specs.Opening.{inputTaken}
 use Rattle.semantics.specs.Evaluate.{refusedBy, left, badDepth, evaluateOf}
 use Rattle.semantics.specs.Reading.{numbersTaken}
 use Rattle.semantics.specs.Run.{Value, truth, word, procedure, binding, none, Ended, gives, aborts, errs, spends, runOf, inputsBound}
-use Rattle.semantics.specs.PlainRun.{Stored, ended, full, startedOf, valueGiven, endedOutcome, storedOutcome, placesIn, stoppedBy, runOutcome, runPlainlyOf}
+use Rattle.semantics.specs.PlainRun.{Stored, full, startedOf, valueGiven, endedOutcome, storedOutcome, placesIn, stoppedBy, runOutcome, runPlainlyOf}
 use Rattle.semantics.proofs.Lasting.{Lasts, lasted, over, started-lasts}
 use Rattle.typing.proofs.Formed.{never}
 use Rattle.soundness.proofs.Means.{isProper}

@@ -21,7 +21,7 @@ use Rattle.semantics.specs.Evaluate.{refusedBy, haltedAgain, left, evaluated, b
 use Rattle.semantics.specs.Reading.{nth, readings}
 use Rattle.terms.proofs.Tables.{terms-length}
 use Rattle.typing.proofs.Grown.{Grown, still, more, grown-length}
-use Rattle.typing.proofs.Formed.{never, both}
+use Rattle.typing.proofs.Formed.{never}
 use Rattle.depth.proofs.Depth.{same-above}
 use Rattle.demands.specs.Demand1.{firstFailed, ruling}
 use Rattle.demands.proofs.Longer.{same-longer}

@@ -33,9 +33,6 @@ true-truth f = there-sort truthTerm refl (f .yes)
 pub truth-value : {ts : List Term} {x : ℕ} → Truth ts x → Value ts x
 truth-value h = value-of truthTerm refl refl h
 
-pub false-value : {n : ℕ} {ts : List Term} → Fit n ts → Value ts falseNumber
-false-value f = truth-value (false-truth f)
-
 -- ---- terms that are laid out
 module _ {n : ℕ} {ts : List Term} where
   pub laid-not : {x : ℕ} → Truth ts x → Lies n ts (term operatorTerm negationCode x 0 0)
