@@ -24,7 +24,7 @@ use Rattle.semantics.specs.History as History
 use Rattle.semantics.specs.Print as Print
 
 unfoldable notation : ℕ
-unfolding Notation.if_then_else_ Notation.if_equals_then_else_ Notation.if_below_then_else_ Notation.unless_then_else_ Notation.with
+unfolding Notation.if_then_else_ Notation.if_equals_then_else_ Notation.if_below_then_else_ Notation.unless_then_else_ Notation.with Notation.upTo Notation.every
 notation = 0
 
 unfoldable words : ℕ
@@ -40,7 +40,7 @@ unfolding Records.recordAt Records.fieldOf
 records = 0
 
 unfoldable rules : ℕ
-unfolding Rules.upTo Rules.every Rules.badRuleSize Rules.usesOf Rules.shapedOf Rules.partsOf Rules.insideOf Rules.timesIn Rules.timesBelow Rules.onceOf Rules.linkedOf Rules.placesOf Rules.toldOf Rules.bindingsBelow Rules.scopedOf Rules.testsOf Rules.ruleRefusalOf
+unfolding Rules.badRuleSize Rules.usesOf Rules.shapedOf Rules.partsOf Rules.insideOf Rules.timesIn Rules.timesBelow Rules.onceOf Rules.linkedOf Rules.placesOf Rules.toldOf Rules.bindingsBelow Rules.scopedOf Rules.testsOf Rules.ruleRefusalOf
 rules = 0
 
 unfoldable terms : ℕ

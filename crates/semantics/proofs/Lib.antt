@@ -1,4 +1,3 @@
-pub mod Every
 pub mod Fields
 pub mod Computing
 pub mod Instances

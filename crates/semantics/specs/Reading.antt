@@ -4,8 +4,8 @@ use mathlib.Core.Bool.{Bool, true, false, not, _&&_, _||_}
 use mathlib.Core.List.{List, [], _∷_}
 use lib.Dec.{eqb, ltb}
 use lib.ListN.{getD, length, replicate}
-use Rattle.notation.specs.Notation.{with, bit, if_then_else_, if_equals_then_else_, if_below_then_else_, unless_then_else_}
-use Rattle.operators.specs.Operators.{operandsOf, givesTruthOf, operateOf}
+use Rattle.notation.specs.Notation.{with, if_then_else_, if_equals_then_else_, if_below_then_else_, unless_then_else_}
+use Rattle.operators.specs.Operators.{operandsOf, givesTruthOf, bitOf, operateOf}
 use Rattle.semantics.specs.declared.Term.{Term}
 use Rattle.semantics.specs.declared.Input.{Input}
 use Rattle.semantics.specs.declared.Result.{Result}
@@ -25,7 +25,7 @@ abbrev pub nothing : Reading
 nothing = readingOf 0 0
 
 abbrev pub truthReading : Bool → Reading
-truthReading b = readingOf truthTerm (bit b)
+truthReading b = readingOf truthTerm (bitOf b)
 
 unfoldable pub isTrue : Reading → Bool
 isTrue v = if v .sort equals truthTerm then eqb (v .number) 1 else false

@@ -7,8 +7,8 @@ use native.Mathlib.Omega.{arith}
 use lib.ListN.{length, getD}
 use lib.Dec.{eqb, ltb}
 use borrow.Author.Tests.{eqb-true, ltb-true, lt-ltb}
-use Rattle.notation.specs.Notation.{pick, bit, with, if_then_else_, if_equals_then_else_, if_below_then_else_}
-use Rattle.operators.specs.Operators.{operandsOf, givesTruthOf, operateOf}
+use Rattle.notation.specs.Notation.{pick, with, if_then_else_, if_equals_then_else_, if_below_then_else_}
+use Rattle.operators.specs.Operators.{operandsOf, givesTruthOf, bitOf, operateOf}
 use Rattle.semantics.specs.declared.Term.{Term}
 use Rattle.semantics.specs.declared.Reading.{Reading}
 use Rattle.semantics.specs.Numbers.{truthTerm, wordTerm, freeTruthTerm, operatorTerm, procedureTerm, bindingTerm, notCode, isWordCode, isProcedureCode, negationCode, conjunctionCode, disjunctionCode, truthCode}
@@ -84,12 +84,12 @@ number-same (binding v e) h = never h
 number-same none h = never h
 
 -- ---- operators
-small-bit : (n : ℕ) → n < 2 → n ≡ bit (eqb n 1)
+small-bit : (n : ℕ) → n < 2 → n ≡ bitOf (eqb n 1)
 small-bit zero h = refl
 small-bit (suc zero) h = refl
 small-bit (suc (suc n)) h = absurd (omega arith)
 
-bit-small : (b : Bool) → bit b < 2
+bit-small : (b : Bool) → bitOf b < 2
 bit-small true = omega arith
 bit-small false = omega arith
 
@@ -113,7 +113,7 @@ module _ (op : ℕ) where
       small : givesTruthOf op ≡ true → operateOf op x y < 2
       small h = rw (truth-bit op x y h) (pick-small (eqb op 11))
         where
-          pick-small : (b : Bool) → pick b (bit (ltb x y)) (bit (eqb x y)) < 2
+          pick-small : (b : Bool) → pick b (bitOf (ltb x y)) (bitOf (eqb x y)) < 2
           pick-small true = bit-small (ltb x y)
           pick-small false = bit-small (eqb x y)
 

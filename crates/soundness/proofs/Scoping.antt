@@ -8,12 +8,13 @@ use native.Mathlib.Omega.{arith}
 use lib.ListN.{length, getD, set, length-set, length-replicate}
 use lib.Dec.{eqb, ltb}
 use borrow.Author.Tests.{eqb-true, eqb-false, eq-eqb, ne-eqb, ltb-true, ltb-false}
-use Rattle.notation.specs.Notation.{pick, with, if_then_else_, if_equals_then_else_, unless_then_else_}
+use Rattle.notation.specs.Notation.{pick, with, if_then_else_, if_equals_then_else_, unless_then_else_, upTo, every}
+use Rattle.notation.proofs.Every.{up-all}
 use Rattle.operators.specs.Operators.{operandsOf}
 use Rattle.semantics.specs.declared.Record.{Record}
 use Rattle.semantics.specs.Numbers.{variableRecord, procedureRecord, callRecord, operatorRecord, letRecord, ifRecord, inputCount, recordLimit, ruleBytes, ruleSize, badRecord, badTree, badPlace}
 use Rattle.semantics.specs.Records.{recordAt, recordsIn}
-use Rattle.semantics.specs.Rules.{upTo, every, badRuleSize, shapedOf, Part, part, partsOf, insideOf, timesIn, timesBelow, onceOf, linkedOf, placesOf, toldOf, bindingsBelow, scopedOf, testsOf, ruleRefusalOf}
+use Rattle.semantics.specs.Rules.{badRuleSize, shapedOf, Part, part, partsOf, insideOf, timesIn, timesBelow, onceOf, linkedOf, placesOf, toldOf, bindingsBelow, scopedOf, testsOf, ruleRefusalOf}
 use Rattle.typing.proofs.Formed.{never, both, by-test}
 use Rattle.soundness.proofs.Scope.{Under, Scoped}
 
@@ -38,15 +39,6 @@ set-other (x ∷ xs) zero zero a h = absurd (h refl)
 set-other (x ∷ xs) zero (suc j) a h = refl
 set-other (x ∷ xs) (suc i) zero a h = refl
 set-other (x ∷ xs) (suc i) (suc j) a h = set-other xs i j a (λ e. h (ap suc e))
-
-up-at : (n : ℕ) (f : ℕ → Bool) → upTo n f ≡ true → (i : ℕ) → i < n → f i ≡ true
-unfolding upTo if_then_else_
-up-at zero f h i l = absurd (omega arith)
-up-at (suc n) f h i l = by-test (upTo n f) (f n) false h (λ a b. go a b (eqb i n) refl (λ k. up-at n f a i k)) (λ a b. never b)
-  where
-    go : upTo n f ≡ true → f n ≡ true → (c : Bool) → eqb i n ≡ c → (i < n → f i ≡ true) → f i ≡ true
-    go a b true e r = ap f (eqb-true i n e) ∙ b
-    go a b false e r = r (omega (arith, eqb-false i n e))
 
 -- ---- what a record tells its parts
 module _ (c : ℕ) where
@@ -216,7 +208,7 @@ module _ (s : List ℕ) (h : ruleRefusalOf s ≡ 0) where
   inside : {c m : ℕ} (i : ℕ) → i < recordsIn s → In (part c m) (partsOf (recordAt s i)) → (i < c) × (c < recordsIn s)
   unfolding linkedOf insideOf
   inside {c} {m} i l p =
-      both (every (insideOf i (recordsIn s)) (partsOf (recordAt s i))) (onceOf i (timesBelow s (recordsIn s) i)) (up-at (recordsIn s) (linkedOf s (recordsIn s)) (tests .0) i l) λ a b.
+      both (every (insideOf i (recordsIn s)) (partsOf (recordAt s i))) (onceOf i (timesBelow s (recordsIn s) i)) (up-all (linkedOf s (recordsIn s)) (recordsIn s) (tests .0) i l) λ a b.
       both (ltb i c) (ltb c (recordsIn s)) (every-in (insideOf i (recordsIn s)) (partsOf (recordAt s i)) a p) λ u v.
       (omega (arith, ltb-true i c u), omega (arith, ltb-true c (recordsIn s) v))
 
@@ -224,7 +216,7 @@ module _ (s : List ℕ) (h : ruleRefusalOf s ≡ 0) where
   once : (c : ℕ) → 0 < c → c < recordsIn s → timesBelow s (recordsIn s) c ≡ 1
   unfolding linkedOf onceOf if_equals_then_else_
   once c z l =
-      both (every (insideOf c (recordsIn s)) (partsOf (recordAt s c))) (pick (eqb c 0) true (eqb (timesBelow s (recordsIn s) c) 1)) (up-at (recordsIn s) (linkedOf s (recordsIn s)) (tests .0) c l) λ a b.
+      both (every (insideOf c (recordsIn s)) (partsOf (recordAt s c))) (pick (eqb c 0) true (eqb (timesBelow s (recordsIn s) c) 1)) (up-all (linkedOf s (recordsIn s)) (recordsIn s) (tests .0) c l) λ a b.
       by-test (eqb c 0) true (eqb (timesBelow s (recordsIn s) c) 1) b (λ i e. absurd (omega (arith, eqb-true c 0 i))) (λ i e. eqb-true _ _ e)
 
   under : {c m : ℕ} (i : ℕ) → i < recordsIn s → In (part c m) (partsOf (recordAt s i)) → Under (recordsIn s) (needOf s) c (needOf s i + m)
@@ -240,7 +232,7 @@ module _ (s : List ℕ) (h : ruleRefusalOf s ≡ 0) where
   place : {p : ℕ} (i : ℕ) → i < recordsIn s → In p (placesOf (recordAt s i)) → p < needOf s i + inputCount
   unfolding scopedOf with
   place {p} i l q =
-      let e = every-in (λ p. ltb p (needOf s i + inputCount)) (placesOf (recordAt s i)) (up-at (recordsIn s) (scopedOf s) (tests .1) i l) q in
+      let e = every-in (λ p. ltb p (needOf s i + inputCount)) (placesOf (recordAt s i)) (up-all (scopedOf s) (recordsIn s) (tests .1) i l) q in
       omega (arith, ltb-true p (needOf s i + inputCount) e)
 
   pub scoped : Scoped s (recordsIn s) (needOf s)
