@@ -17,6 +17,7 @@ use Rattle.semantics.specs.Merge as Merge
 use Rattle.semantics.specs.Evaluation as Evaluation
 use Rattle.semantics.specs.Fits as Fits
 use Rattle.semantics.specs.Evaluate as Evaluate
+use Rattle.semantics.specs.Fold as Fold
 use Rattle.semantics.specs.Reading as Reading
 use Rattle.semantics.specs.Run as Run
 use Rattle.semantics.specs.PlainRun as PlainRun
@@ -83,8 +84,12 @@ unfoldable evaluate : ℕ
 unfolding Evaluate.refusedBy Evaluate.haltedAgain Evaluate.evaluated Evaluate.badDepth Evaluate.evaluateOf
 evaluate = 0
 
+unfoldable fold : ℕ
+unfolding Fold.numbered Fold.foldTerms
+fold = 0
+
 unfoldable reading : ℕ
-unfolding Reading.isTrue Reading.isTruth Reading.isWord Reading.passes Reading.resultReading Reading.operandsAreWords Reading.operationReading Reading.operatorReading Reading.termReading Reading.nth Reading.readings Reading.valueOutcome Reading.resultOutcome Reading.numbersTaken Reading.resultTaken Reading.readIn Reading.readOutcome Reading.readOf
+unfolding Reading.isTrue Reading.isTruth Reading.isWord Reading.passes Reading.resultReading Reading.operandsAreWords Reading.operationReading Reading.operatorReading Reading.termReading Reading.readings Reading.valueOutcome Reading.resultOutcome Reading.numbersTaken Reading.resultTaken Reading.readIn Reading.readOutcome Reading.readOf
 reading = 0
 
 unfoldable run : ℕ
@@ -104,5 +109,5 @@ unfolding Print.inputsFrom Print.inputsWhole Print.termLine Print.termLines Prin
 print = 0
 
 unfoldable pub computing : ℕ
-unfolding notation words operators records rules terms steps factory opening states walk merge evaluation fits evaluate reading run plainRun history print
+unfolding notation words operators records rules terms steps factory opening states walk merge evaluation fits evaluate fold reading run plainRun history print
 computing = 0

@@ -1,3 +1,4 @@
+pub mod Fold
 pub mod Fields
 pub mod Computing
 pub mod Instances
