@@ -93,7 +93,7 @@ unfolding Reading.isTrue Reading.isTruth Reading.isWord Reading.passes Reading.r
 reading = 0
 
 unfoldable run : ℕ
-unfolding Run.after Run.placed Run.isFalse Run.isAWord Run.isAProcedure Run.wordIn Run.operationValue Run.wordsRun Run.operatorRun Run.datumValue Run.callRun Run.expressionRun Run.runOf Run.inputValue Run.inputsBound
+unfolding Run.after Run.placedOr Run.isFalse Run.isAWord Run.isAProcedure Run.wordIn Run.operationValue Run.wordsRun Run.operatorRun Run.datumValue Run.callRun Run.expressionRun Run.runBy Run.inputValue Run.inputsBound
 run = 0
 
 unfoldable plainRun : ℕ
