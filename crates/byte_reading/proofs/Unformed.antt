@@ -7,12 +7,11 @@ use native.Mathlib.Omega.{arith}
 use lib.Dec.{leb}
 use lib.ListN.{length}
 use borrow.Author.Tests.{leb-true}
-use Rattle.notation.specs.Notation.{if_then_else_, if_equals_then_else_, unless_then_else_}
+use Rattle.notation.specs.Notation.{if_then_else_, if_equals_then_else_, unless_then_else_, every}
 use Rattle.semantics.specs.declared.Session.{Session}
 use Rattle.semantics.specs.declared.Outcome.the-variants.{Refused}
 use Rattle.semantics.specs.Numbers.{badResult, termLimit}
 use Rattle.semantics.specs.Records.{recordsIn}
-use Rattle.semantics.specs.Rules.{every}
 use Rattle.semantics.specs.Terms.{termsIn, sortOf, namesTruth}
 use Rattle.semantics.specs.Opening.{badTableSize, inputTaken, opening}
 use Rattle.semantics.specs.Fits.{fitsOf}

@@ -7,12 +7,12 @@ use native.Mathlib.Omega.{arith}
 use lib.Dec.{ltb, leb}
 use lib.ListN.{length}
 use borrow.Author.Tests.{ltb-true, ltb-false, leb-false}
-use Rattle.notation.specs.Notation.{pick, with, if_then_else_, if_below_then_else_, unless_then_else_}
+use Rattle.notation.specs.Notation.{pick, with, if_then_else_, if_below_then_else_, unless_then_else_, upTo}
 use Rattle.semantics.specs.declared.Session.{Session}
 use Rattle.semantics.specs.declared.Evaluated.{Evaluated}
 use Rattle.semantics.specs.Numbers.{misfit, ruleSize, badRecord, badTree, badPlace, badAllowance, rulesSpent, callTooWide, ruleLimit}
 use Rattle.semantics.specs.Records.{recordAt, recordsIn}
-use Rattle.semantics.specs.Rules.{upTo, badRuleSize, shapedOf, linkedOf, scopedOf, testsOf, ruleRefusalOf}
+use Rattle.semantics.specs.Rules.{badRuleSize, shapedOf, linkedOf, scopedOf, testsOf, ruleRefusalOf}
 use Rattle.semantics.specs.Fits.{fitsOf}
 use Rattle.semantics.specs.Evaluate.{refusedBy, haltedAgain, evaluated, badDepth, evaluateOf}
 use Rattle.demands.specs.Demand1.{firstFailed}

@@ -7,7 +7,7 @@ use native.Mathlib.Omega.{arith}
 use lib.Dec.{ltb}
 use lib.ListN.{length, replicate}
 use borrow.Author.Tests.{ltb-true, ltb-false}
-use Rattle.notation.specs.Notation.{pick, with, if_then_else_, if_below_then_else_, unless_then_else_}
+use Rattle.notation.specs.Notation.{pick, with, if_then_else_, if_below_then_else_, unless_then_else_, every}
 use Rattle.semantics.specs.declared.Term.{Term}
 use Rattle.semantics.specs.declared.Input.{Input}
 use Rattle.semantics.specs.declared.Result.{Result}
@@ -15,7 +15,7 @@ use Rattle.semantics.specs.declared.Session.{Session}
 use Rattle.semantics.specs.declared.Outcome.{Outcome}
 use Rattle.semantics.specs.declared.Outcome.the-variants.{Refused}
 use Rattle.semantics.specs.Numbers.{inputCount, badInput, badNumber, badAllowance, depthSpent, storeFull, noValue}
-use Rattle.semantics.specs.Rules.{every, ruleRefusalOf}
+use Rattle.semantics.specs.Rules.{ruleRefusalOf}
 use Rattle.semantics.specs.Terms.{termsIn}
 use Rattle.semantics.specs.Steps.{gave, refused}
 use Rattle.semantics.specs.Opening.{inputTaken}

@@ -6,7 +6,7 @@ use Prim.Native.Nat.{ℕ, _<_, _≤_}
 use native.Mathlib.Omega.{arith}
 use lib.ListN.{length, replicate, length-replicate}
 use borrow.Author.Tests.{le-ltb}
-use Rattle.notation.specs.Notation.{pick, with, if_then_else_, if_below_then_else_, unless_then_else_}
+use Rattle.notation.specs.Notation.{pick, with, if_then_else_, if_below_then_else_, unless_then_else_, every}
 use Rattle.semantics.specs.declared.Term.{Term}
 use Rattle.semantics.specs.declared.Input.{Input}
 use Rattle.semantics.specs.declared.State.{State}
@@ -16,7 +16,6 @@ use Rattle.semantics.specs.declared.Answer.the-variants.{Halt, Refused}
 use Rattle.semantics.specs.declared.Outcome.{Outcome}
 use Rattle.semantics.specs.declared.Outcome.the-variants.{Refused as NoOutcome}
 use Rattle.semantics.specs.Numbers.{inputCount, mostTable, tableSize, badInput, misfit, callTooWide, tableFull, depthSpent}
-use Rattle.semantics.specs.Rules.{every}
 use Rattle.semantics.specs.Terms.{termsIn, imageOf}
 use Rattle.semantics.specs.Steps.{settingOf, Got, gave, refused}
 use Rattle.semantics.specs.Opening.{badTableSize, inputTaken, opening, sessionOf, openRefused, openOf}

@@ -2,12 +2,11 @@
 -- and a result is the same under any larger allowance and in any longer table. Assumes nothing.
 use mathlib.Core.Path.{_≡_, refl, sym, ap, _∙_}
 use mathlib.Core.Bool.{true, false}
-use mathlib.Core.List.{List, [], _∷_}
-use Prim.Native.Nat.{ℕ, suc, _<_, _≤_}
+use mathlib.Core.List.{List}
+use Prim.Native.Nat.{ℕ, _<_, _≤_}
 use native.Mathlib.Omega.{arith}
 use lib.ListN.{length}
-use borrow.Author.Tests.{ne-eqb}
-use Rattle.notation.specs.Notation.{with, if_equals_then_else_, unless_then_else_}
+use Rattle.notation.specs.Notation.{unless_then_else_}
 use Rattle.semantics.specs.declared.Term.{Term}
 use Rattle.semantics.specs.declared.Result.{Result}
 use Rattle.semantics.specs.declared.Session.{Session}
@@ -18,10 +17,11 @@ use Rattle.semantics.specs.Steps.{settingOf, roomOf, Got, gave, refused}
 use Rattle.semantics.specs.Opening.{opening}
 use Rattle.semantics.specs.Fits.{fitsOf}
 use Rattle.semantics.specs.Evaluate.{refusedBy, haltedAgain, left, evaluated, badDepth, evaluateOf}
-use Rattle.semantics.specs.Reading.{nth, readings}
+use Rattle.semantics.specs.Reading.{nothing, termReading, nth, readings}
 use Rattle.terms.proofs.Tables.{terms-length}
-use Rattle.typing.proofs.Grown.{Grown, still, more, grown-length}
+use Rattle.typing.proofs.Grown.{Grown, grown-length}
 use Rattle.typing.proofs.Formed.{never}
+use Rattle.typing.proofs.Folds.{fold-grown}
 use Rattle.depth.proofs.Depth.{same-above}
 use Rattle.demands.specs.Demand1.{firstFailed, ruling}
 use Rattle.demands.proofs.Longer.{same-longer}
@@ -30,17 +30,9 @@ use Rattle.demands.proofs.Stored.{stored-terms, stored-older}
 use Rattle.demands.proofs.Answers.{Answered, failed, again, goes, answered, passed}
 
 -- ---- older terms read the same in a longer table
-reading-lower : (ns : List ℕ) (t : Term) (ts : List Term) (k : ℕ) → k < length ts → nth (readings ns (t ∷ ts)) k ≡ nth (readings ns ts) k
-unfolding readings with nth if_equals_then_else_
-reading-lower ns t ts k h = rw (ne-eqb k (length (readings ns ts)) (λ e. omega (arith, as-many ts))) refl
-  where
-    as-many : (ts : List Term) → length (readings ns ts) ≡ length ts
-    as-many [] = refl
-    as-many (t ∷ ts) = ap suc (as-many ts)
-
 pub older-read : (ns : List ℕ) {ts us : List Term} → Grown ts us → (k : ℕ) → k < length ts → nth (readings ns us) k ≡ nth (readings ns ts) k
-older-read ns still k h = refl
-older-read ns (more {us = us} {t = t} g) k h = let l = grown-length g in reading-lower ns t us k (omega arith) ∙ older-read ns g k h
+unfolding readings
+older-read ns g k h = fold-grown (termReading ns) nothing k g h
 
 module _ (rule : List ℕ) (allowance : ℕ) (x : Session) (s : List ℕ) where
   record Appends (o : Evaluated × List ℕ) : Type 0 where

@@ -6,12 +6,11 @@ use Prim.Native.Nat.{ℕ, suc, _-_, _*_, _/_, _≤_}
 use native.Mathlib.Omega.{arith}
 use lib.ListN.{length, take, drop}
 use borrow.Author.Tests.{eq-eqb, le-leb}
-use Rattle.notation.specs.Notation.{if_then_else_}
+use Rattle.notation.specs.Notation.{if_then_else_, every}
 use Rattle.semantics.specs.declared.Term.{Term}
 use Rattle.semantics.specs.declared.Input.{Input}
 use Rattle.semantics.specs.declared.Session.{Session}
 use Rattle.semantics.specs.Numbers.{inputCount, mostTable, ruleLimit}
-use Rattle.semantics.specs.Rules.{every}
 use Rattle.semantics.specs.Terms.{termsIn, imageOf, sameOf}
 use Rattle.semantics.specs.Steps.{settingOf, roomOf, Got, gave}
 use Rattle.semantics.specs.Opening.{badTableSize, inputTaken, openingOf, opening}

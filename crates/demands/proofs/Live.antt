@@ -8,7 +8,7 @@ use native.Mathlib.Omega.{arith}
 use lib.ListN.{length}
 use lib.Dec.{ltb}
 use borrow.Author.Tests.{ltb-true}
-use Rattle.notation.specs.Notation.{pick, if_then_else_}
+use Rattle.notation.specs.Notation.{pick, if_then_else_, every}
 use Rattle.semantics.specs.declared.Term.{Term}
 use Rattle.semantics.specs.declared.Input.{Input}
 use Rattle.semantics.specs.declared.Result.{Result}
@@ -16,7 +16,6 @@ use Rattle.semantics.specs.declared.Session.{Session}
 use Rattle.semantics.specs.declared.Answer.the-variants.{Out, Halt}
 use Rattle.semantics.specs.declared.Evaluated.{Evaluated}
 use Rattle.semantics.specs.Numbers.{inputCount, trueNumber, freeTruth, mostTable}
-use Rattle.semantics.specs.Rules.{every}
 use Rattle.semantics.specs.Terms.{imageOf}
 use Rattle.semantics.specs.Steps.{settingOf, Got, gave, refused}
 use Rattle.semantics.specs.States.{stateOf, outOf, haltOf}

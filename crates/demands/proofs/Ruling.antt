@@ -7,7 +7,7 @@ use native.Mathlib.Omega.{arith}
 use lib.ListN.{length}
 use lib.Dec.{leb}
 use borrow.Author.Tests.{leb-true}
-use Rattle.notation.specs.Notation.{pick, if_then_else_, unless_then_else_}
+use Rattle.notation.specs.Notation.{pick, if_then_else_, unless_then_else_, every}
 use Rattle.semantics.specs.declared.Term.{Term}
 use Rattle.semantics.specs.declared.Result.{Result}
 use Rattle.semantics.specs.declared.Session.{Session}
@@ -16,7 +16,6 @@ use Rattle.semantics.specs.Numbers.{misfit}
 use Rattle.semantics.specs.Records.{recordsIn}
 use Rattle.semantics.specs.Terms.{termsIn}
 use Rattle.semantics.specs.Steps.{roomOf, gave}
-use Rattle.semantics.specs.Rules.{every}
 use Rattle.semantics.specs.Opening.{badTableSize, inputTaken, opening}
 use Rattle.semantics.specs.Fits.{fitsOf}
 use Rattle.semantics.specs.Evaluate.{haltedAgain, left, evaluated, badDepth, evaluateOf}

@@ -1,6 +1,6 @@
 -- The bytes of a table that holds some terms: as long as it is meant to be, those terms when they are cut from it again, and zero past them.
 -- Assumes nothing.
-use mathlib.Core.Path.{_≡_, refl, _∙_}
+use mathlib.Core.Path.{_≡_, refl, sym, _∙_}
 use mathlib.Core.Bool.{true}
 use mathlib.Core.List.{List, [], _∷_}
 use Prim.Native.Nat.{ℕ, suc, _+_, _-_, _*_, _<_, _≤_}
@@ -8,9 +8,9 @@ use native.Mathlib.Omega.{arith}
 use lib.ListN.{length, getD, drop, length-drop, length-replicate, getD-replicate}
 use lib.Seq.{getD-drop}
 use borrow.Author.Tests.{eq-eqb}
-use Rattle.notation.specs.Notation.{if_then_else_}
+use Rattle.notation.specs.Notation.{every}
+use Rattle.notation.proofs.Every.{every-all}
 use Rattle.semantics.specs.declared.Term.{Term}
-use Rattle.semantics.specs.Rules.{every}
 use Rattle.semantics.specs.Terms.{termAt, termsIn, put, imageOf}
 use Rattle.semantics.specs.Fits.{isZero}
 use Rattle.terms.proofs.Tables.{terms-same}
@@ -54,14 +54,10 @@ module _ (l : ℕ) where
   stored-past [] h k i j = getD-replicate l k 0 0 j
   stored-past (t ∷ ts) h k i j = put-past (imageOf l ts) (length ts) t (room t ts h) k (omega arith) ∙ stored-past ts (omega arith) k (omega arith) j
 
-every-zero : (s : List ℕ) → ((k : ℕ) → k < length s → getD s k 0 ≡ 0) → every isZero s ≡ true
-unfolding every isZero if_then_else_
-every-zero [] h = refl
-every-zero (b ∷ s) h = let e : b ≡ 0 = h 0 (omega arith) in rw (eq-eqb _ _ e) (every-zero s (λ k l. h (suc k) (omega arith)))
-
 pub stored-tail : (l : ℕ) (ts : List Term) → length ts * 8 ≤ l → every isZero (drop (8 * length ts) (imageOf l ts)) ≡ true
+unfolding isZero
 stored-tail l ts h =
-    every-zero _ (λ k i. getD-drop (8 * length ts) (imageOf l ts) k 0 ∙ stored-past l ts h (8 * length ts + k) (omega arith) (low k i))
+    sym (every-all isZero 0 _ (λ k i. eq-eqb _ _ (getD-drop (8 * length ts) (imageOf l ts) k 0 ∙ stored-past l ts h (8 * length ts + k) (omega arith) (low k i))))
   where
     low : (k : ℕ) → k < length (drop (8 * length ts) (imageOf l ts)) → 8 * length ts + k < l
     low k i = let e = stored-length l ts h in let j : k < length (imageOf l ts) - 8 * length ts = rw (length-drop (8 * length ts) (imageOf l ts)) at i in omega arith

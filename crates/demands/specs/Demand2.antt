@@ -6,7 +6,7 @@ use mathlib.Core.Bool.{false}
 use mathlib.Core.List.{List}
 use Prim.Native.Nat.{ℕ, _+_, _<_, _≤_}
 use lib.ListN.{length, replicate}
-use Rattle.notation.specs.Notation.{if_then_else_, if_below_then_else_, unless_then_else_, with}
+use Rattle.notation.specs.Notation.{if_then_else_, if_below_then_else_, unless_then_else_, with, every}
 use Rattle.semantics.specs.declared.Term.{Term}
 use Rattle.semantics.specs.declared.Input.{Input}
 use Rattle.semantics.specs.declared.Result.{Result}
@@ -14,7 +14,7 @@ use Rattle.semantics.specs.declared.Session.{Session}
 use Rattle.semantics.specs.declared.Answer.the-variants.{Refused}
 use Rattle.semantics.specs.declared.Outcome.the-variants.{Refused as NoOutcome}
 use Rattle.semantics.specs.Numbers.{inputCount, badInput, badNumber, badAllowance, storeFull, noValue}
-use Rattle.semantics.specs.Rules.{every, ruleRefusalOf}
+use Rattle.semantics.specs.Rules.{ruleRefusalOf}
 use Rattle.semantics.specs.Terms.{termsIn, imageOf}
 use Rattle.semantics.specs.Steps.{gave, refused}
 use Rattle.semantics.specs.Opening.{inputTaken}

@@ -10,9 +10,8 @@ use lib.ListN.{length, getD, take, drop, drop-of-length-le}
 use lib.Seq.{drop-cons}
 use lib.Dec.{eqb}
 use borrow.Author.Tests.{eq-eqb, ne-eqb}
-use Rattle.notation.specs.Notation.{pick, if_then_else_}
+use Rattle.notation.specs.Notation.{pick, if_then_else_, every}
 use Rattle.semantics.specs.declared.Term.{Term}
-use Rattle.semantics.specs.Rules.{every}
 use Rattle.semantics.specs.Terms.{termAt, termsIn, sameOf}
 use Rattle.semantics.specs.Fits.{sameTerms, noFree, isZero}
 

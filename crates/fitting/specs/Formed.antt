@@ -4,13 +4,12 @@ use mathlib.Core.Bool.{Bool, _&&_, _||_}
 use mathlib.Core.List.{List}
 use lib.Dec.{eqb, ltb, leb}
 use lib.ListN.{length, take, drop}
-use Rattle.notation.specs.Notation.{if_equals_then_else_}
+use Rattle.notation.specs.Notation.{if_equals_then_else_, every}
 use Rattle.operators.specs.Operators.{operandsOf}
 use Rattle.semantics.specs.declared.Term.{Term}
 use Rattle.semantics.specs.declared.Session.{Session}
 use Rattle.semantics.specs.Numbers.{recordLimit, noBinding, ruleLimit}
 use Rattle.semantics.specs.Records.{recordsIn}
-use Rattle.semantics.specs.Rules.{every}
 use Rattle.semantics.specs.Terms.{namesTruth, namesBinding, namesValue, termsIn, wellFormed}
 use Rattle.semantics.specs.Fits.{sameTerms, noFree, isZero}
 

@@ -9,7 +9,7 @@ ghost use mathlib.Core.Path.{_≡_};
 ghost use Prim.Native.Nat.{_-_};
 ghost use lib.Dec.{eqb};
 ghost use lib.ListN.{take, drop};
-ghost use Rattle.semantics.specs.Rules.{every};
+ghost use Rattle.notation.specs.Notation.{every};
 ghost use Rattle.semantics.specs.Terms.{wordLaid, termsIn, namesTruth, namesChoice, namesBinding, namesValue, operandsLaidOut, laidOut, wellFormed};
 ghost use Rattle.semantics.specs.Opening.{inputTaken, opening};
 ghost use Rattle.semantics.specs.Fits.{sameTerms, noFree, isZero, fitsOf};

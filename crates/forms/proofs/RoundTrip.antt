@@ -11,7 +11,9 @@ use lib.Seq.{sets, take-suc, take-all, getD-append-add}
 use borrow.Author.Tests.{eq-eqb}
 use Rattle.words.specs.Words.{wordBytes, lowOf, highOf}
 use Rattle.words.proofs.Words.{join-halves, one-field}
-use Rattle.notation.specs.Notation.{bit, pick, if_then_else_}
+use Rattle.notation.specs.Notation.{pick, if_then_else_}
+use Rattle.notation.proofs.Every.{up-make}
+use Rattle.operators.specs.Operators.{bitOf}
 use Rattle.semantics.specs.declared.Input.{Input}
 use Rattle.semantics.specs.declared.Result.{Result}
 use Rattle.semantics.specs.declared.Session.{Session}
@@ -20,7 +22,6 @@ use Rattle.semantics.specs.Numbers.{inputCount}
 use Rattle.semantics.specs.Records.{wordAt}
 use Rattle.semantics.specs.Answers.{answerOf, resultIn as resultOf}
 use Rattle.semantics.specs.Print.{inputSize, inputAt, inputZeroed}
-use Rattle.rules.proofs.Follow.{up-make}
 use Rattle.forms.specs.Forms.{inputsLength, sessionLength, resultLength, answerLength, eachBelow, inputsIn, inputsZeroed, markFormed, sessionIn, sessionFormed, resultAt, resultFormed, resultIn, pairsOf, wordBytesOf, inputBytes, inputsBytes, sessionBytes}
 use Rattle.forms.specs.Answers.{answerValues, writtenAt}
 use Rattle.forms.proofs.Written.{sets-whole, inputs-long, session-length}
@@ -76,18 +77,18 @@ module _ (xs : List Input) (long : length xs ≡ inputCount) (r : List ℕ) wher
   inputs-zero = up-make (inputZeroed (inputsBytes xs ++ r)) inputCount (λ i h. eq-eqb _ 0 (byte-of xs r no-input i 1 (inputSize * i + 1) (omega arith) (omega arith) refl))
 
 -- ---- the mark
-mark-back : (b : Bool) → eqb (bit b) 1 ≡ b
+mark-back : (b : Bool) → eqb (bitOf b) 1 ≡ b
 mark-back true = refl
 mark-back false = refl
 
-mark-low : (b : Bool) → ltb (bit b) 2 ≡ true
+mark-low : (b : Bool) → ltb (bitOf b) 2 ≡ true
 mark-low true = refl
 mark-low false = refl
 
 -- ---- the session
 module _ (x : Session) (long : length (x .inputs) ≡ inputCount) where
   abbrev rest : List ℕ
-  rest = pairsOf (x .count ∷ x .state .assumed ∷ x .state .asserted ∷ x .accepted ∷ []) ++ (bit (x .halted) ∷ 0 ∷ [])
+  rest = pairsOf (x .count ∷ x .state .assumed ∷ x .state .asserted ∷ x .accepted ∷ []) ++ (bitOf (x .halted) ∷ 0 ∷ [])
 
   past : (k : ℕ) → getD (inputsBytes (x .inputs) ++ rest) (inputsLength + k) 0 ≡ getD rest k 0
   past k = rw (inputs-long (x .inputs) long) at (getD-append-add (inputsBytes (x .inputs)) rest k 0)

@@ -10,12 +10,11 @@ use lib.ListN.{getD, set, take, length}
 use lib.Seq.{take-all, take-suc-set}
 use borrow.Author.Tests.{eq-eqb, ne-eqb, lt-ltb, le-ltb}
 use Rattle.words.specs.Words.{wordBytes, joinOf}
-use Rattle.notation.specs.Notation.{if_then_else_}
+use Rattle.notation.specs.Notation.{if_then_else_, upTo}
+use Rattle.notation.proofs.Every.{up-next, up-stop, up-end}
 use Rattle.semantics.specs.declared.Input.{Input}
 use Rattle.semantics.specs.Records.{pairAt, wordAt}
-use Rattle.semantics.specs.Rules.{upTo}
 use Rattle.semantics.specs.Print.{inputSize, inputAt, inputZeroed}
-use Rattle.rules.proofs.Follow.{up-next, up-stop, up-end}
 use Rattle.forms.specs.Forms.{inputsLength, eachBelow, inputsIn, inputsZeroed, numbersIn, markFormed, sessionIn, resultFormed, resultIn}
 
 -- ---- a word, of its two fields

@@ -7,7 +7,7 @@ use native.Mathlib.Omega.{arith}
 use lib.ListN.{getD, set, take, length, length-append, drop-of-length-le}
 use lib.Seq.{sets, sets-eq, set-out, take-suc, take-all, length-take-le}
 use Rattle.words.specs.Words.{wordBytes, lowOf}
-use Rattle.notation.specs.Notation.{bit}
+use Rattle.operators.specs.Operators.{bitOf}
 use Rattle.semantics.specs.declared.Input.{Input}
 use Rattle.semantics.specs.declared.Session.{Session}
 use Rattle.semantics.specs.Numbers.{inputCount}
@@ -101,8 +101,8 @@ module _ (x : Session) (long : length (inputsBytes (x .inputs)) ≡ inputsLength
   session-length = length-append (inputsBytes (x .inputs)) _ ∙ rw long
 
   pub put-session : (s : List ℕ) {a b c d : List ℕ} → a ≡ sets s 0 (inputsBytes (x .inputs)) → b ≡ sets a inputsLength (pairsOf (x .count ∷ x .state .assumed ∷ x .state .asserted ∷ x .accepted ∷ []))
-      → {h : ℕ} → h ≡ bit (x .halted) → c ≡ set b (inputsLength + 8) h → d ≡ set c (inputsLength + 9) 0 → d ≡ sets s 0 (sessionBytes x)
+      → {h : ℕ} → h ≡ bitOf (x .halted) → c ≡ set b (inputsLength + 8) h → d ≡ set c (inputsLength + 9) 0 → d ≡ sets s 0 (sessionBytes x)
   unfolding sessionBytes
   put-session s ea eb eh ec ed =
-      let rest : List ℕ = pairsOf (x .count ∷ x .state .assumed ∷ x .state .asserted ∷ x .accepted ∷ []) ++ (bit (x .halted) ∷ 0 ∷ []) in
+      let rest : List ℕ = pairsOf (x .count ∷ x .state .assumed ∷ x .state .asserted ∷ x .accepted ∷ []) ++ (bitOf (x .halted) ∷ 0 ∷ []) in
       ed ∙ rw (ec, eb, ea, eh) (sets-then (inputsBytes (x .inputs)) rest s 0 inputsLength (rw long))

@@ -2,7 +2,7 @@
 use Prim.Native.Nat.{ℕ}
 use mathlib.Core.List.{List, [], _∷_}
 use lib.Seq.{sets}
-use Rattle.notation.specs.Notation.{bit}
+use Rattle.operators.specs.Operators.{bitOf}
 use Rattle.semantics.specs.declared.Answer.{Answer}
 use Rattle.semantics.specs.declared.Answer.the-variants.{Out, Halt, Refused}
 use Rattle.semantics.specs.declared.Outcome.{Outcome}
@@ -18,7 +18,7 @@ answerValues (Refused k) = k ∷ []
 -- a reading's or a run's: 0, the kind of the term that stands for the value and its number, of a stop the kind of the record that brings it
 -- about and 0; or the number of the refusal
 abbrev pub outcomeValues : Outcome → List ℕ
-outcomeValues (Truth b) = 0 ∷ truthTerm ∷ bit b ∷ []
+outcomeValues (Truth b) = 0 ∷ truthTerm ∷ bitOf b ∷ []
 outcomeValues (Word w) = 0 ∷ wordTerm ∷ w ∷ []
 outcomeValues (Procedure i) = 0 ∷ procedureTerm ∷ i ∷ []
 outcomeValues Abort = 0 ∷ abortRecord ∷ 0 ∷ []

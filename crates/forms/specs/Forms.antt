@@ -6,13 +6,13 @@ use mathlib.Core.List.{List, [], _∷_, _++_}
 use lib.Dec.{eqb, ltb}
 use lib.ListN.{getD, length}
 use Rattle.words.specs.Words.{wordBytes, lowOf}
-use Rattle.notation.specs.Notation.{bit, if_then_else_}
+use Rattle.notation.specs.Notation.{if_then_else_, upTo}
+use Rattle.operators.specs.Operators.{bitOf}
 use Rattle.semantics.specs.declared.Input.{Input}
 use Rattle.semantics.specs.declared.Result.{Result}
 use Rattle.semantics.specs.declared.Session.{Session}
 use Rattle.semantics.specs.Numbers.{inputCount}
 use Rattle.semantics.specs.Records.{pairAt, wordAt}
-use Rattle.semantics.specs.Rules.{upTo}
 use Rattle.semantics.specs.Print.{inputSize, inputAt, inputZeroed}
 
 -- ---- the lengths
@@ -124,4 +124,4 @@ inputsBytes (x ∷ xs) = inputBytes x ++ inputsBytes xs
 
 -- a session: the inputs; count, S, T and accepted rules, two bytes each; the halted mark
 unfoldable pub sessionBytes : Session → List ℕ
-sessionBytes x = inputsBytes (x .inputs) ++ (pairsOf (x .count ∷ x .state .assumed ∷ x .state .asserted ∷ x .accepted ∷ []) ++ (bit (x .halted) ∷ 0 ∷ []))
+sessionBytes x = inputsBytes (x .inputs) ++ (pairsOf (x .count ∷ x .state .assumed ∷ x .state .asserted ∷ x .accepted ∷ []) ++ (bitOf (x .halted) ∷ 0 ∷ []))

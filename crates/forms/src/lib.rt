@@ -13,7 +13,7 @@ ghost use mathlib.Core.List.{[], _∷_};
 ghost use Prim.Native.Nat.{_+_, _*_};
 ghost use lib.ListN.{length, set};
 ghost use lib.Seq.{sets};
-ghost use Rattle.notation.specs.Notation.{bit};
+ghost use Rattle.operators.specs.Operators.{bitOf};
 ghost use Rattle.semantics.specs.Records.{pairAt, wordAt};
 ghost use Rattle.semantics.specs.Print.{inputSize, inputAt};
 ghost use Rattle.forms.specs.Forms.{inputsLength, sessionLength, inputsIn, inputsZeroed, inputsFormed, numbersIn, markFormed, sessionIn, sessionFormed, resultIn, pairsOf, wordBytesOf, wordsOf, inputBytes, inputsBytes, sessionBytes};
@@ -231,7 +231,7 @@ fn put_four(s: &mut [u8], at: u8, a: u16, b: u16, c: u16, d: u16)
 }
 
 fn bit_of(b: bool) -> u8
-    ensures { λ r. ⌜ r ≡ bit b ⌝ }
+    ensures { λ r. ⌜ r ≡ bitOf b ⌝ }
 {
     if b { 1 } else { 0 }
 }

@@ -12,7 +12,7 @@ use Rattle.notation.specs.Notation.{pick, if_equals_then_else_, if_below_then_e
 use Rattle.semantics.specs.declared.Record.{Record}
 use Rattle.semantics.specs.Numbers.{procedureTerm}
 use Rattle.semantics.specs.Records.{recordAt}
-use Rattle.semantics.specs.Run.{Value, procedure, binding, none, placed}
+use Rattle.semantics.specs.Run.{Value, procedure, binding, none, placedOr, placed}
 use Rattle.interpreter.specs.declared.Held.{Held}
 use Rattle.interpreter.specs.Store.{valueOf, bindingOf, chainBelow, chainIn, lowerOf, linkOf, valueIn, shown}
 use Rattle.interpreter.specs.Promise.{put, bound, heldIn, heldAt, nextAt, Found}
@@ -48,7 +48,7 @@ module _ (s : List ℕ) (n : ℕ) {x : Record} (r : x ≡ recordAt s n) {q : ℕ
 
 -- a place past the nearest
 placed-next : (p : ℕ) (v e : Value) → (p ≡ 0 → ⊥) → placed p (binding v e) ≡ placed (p - 1) e
-unfolding placed
+unfolding placedOr
 placed-next zero v e h = absurd (h refl)
 placed-next (suc p) v e h = let u : suc p - 1 ≡ p = omega arith in rw u
 
@@ -129,7 +129,7 @@ module _ (s : List ℕ) where
   -- looking for a place along a chain
   module _ (e p at left : ℕ) (inv : placed left (chainIn s at) ≡ placed p (chainIn s e)) (low : at ≤ e) where
     pub find-here : 0 < at → left ≡ 0 → {v : Held} → v ≡ heldAt s (at - 1) → Found s e p v
-    unfolding placed
+    unfolding placedOr
     find-here h z q =
         let there : valueIn s (heldAt s (at - 1)) ≡ placed left (chainIn s at) = rw (z, chain-at at h) in
         let l = held-low (at - 1) in
@@ -142,7 +142,7 @@ module _ (s : List ℕ) where
     find-lower h q = let l = next-low (at - 1) in rw q (omega arith)
 
     pub find-end : at ≤ 0 → {v : Held} → v ≡ record { sort = 0; first = 0; second = 0 } → Found s e p v
-    unfolding placed valueIn linkOf valueOf if_equals_then_else_
+    unfolding placedOr valueIn linkOf valueOf if_equals_then_else_
     find-end h q =
         let z : at ≡ 0 = omega arith in
         let there : none ≡ placed left (chainIn s at) = rw (z, chain-empty) in

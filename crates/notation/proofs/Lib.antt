@@ -1,2 +1,3 @@
 pub mod Follow
 pub mod Lists
+pub mod Every

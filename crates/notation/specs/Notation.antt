@@ -1,7 +1,8 @@
--- How the definitions write a condition and a named value. Code that is proved equal to a definition follows its text, and the laws of
--- proofs/Follow.antt are stated over these forms. Assumes nothing.
-use Prim.Native.Nat.{ℕ}
+-- How the definitions write a condition, a named value and a test of many. Code that is proved equal to a definition follows its text, and the laws
+-- of proofs/Follow.antt and proofs/Every.antt are stated over these forms. Assumes nothing.
+use Prim.Native.Nat.{ℕ, zero, suc}
 use mathlib.Core.Bool.{Bool, true, false}
+use mathlib.Core.List.{List, [], _∷_}
 use lib.Dec.{eqb, ltb}
 
 -- the first for true, the second for false
@@ -32,7 +33,12 @@ unless b then x else y = pick b y x
 unfoldable pub with : {A B : Type 0} → A → (A → B) → B
 with v f = f v
 
--- a truth as a number
-abbrev pub bit : Bool → ℕ
-bit true = 1
-bit false = 0
+-- f of every number below n
+unfoldable pub upTo : ℕ → (ℕ → Bool) → Bool
+upTo zero f = true
+upTo (suc n) f = if upTo n f then f n else false
+
+-- f of every element
+unfoldable pub every : {A : Type 0} → (A → Bool) → List A → Bool
+every f [] = true
+every f (x ∷ xs) = if f x then every f xs else false

@@ -7,14 +7,14 @@ use native.Mathlib.Omega.{arith}
 use lib.ListN.{length, getD, List·getD-eq-default}
 use lib.Dec.{eqb}
 use borrow.Author.Tests.{eqb-true, eqb-false}
+use Rattle.notation.specs.Notation.{every}
+use Rattle.notation.proofs.Every.{every-all, every-miss}
 use Rattle.semantics.specs.declared.Term.{Term}
 use Rattle.semantics.specs.declared.Input.{Input}
 use Rattle.semantics.specs.Numbers.{bindingTerm, noBinding}
 use Rattle.semantics.specs.Terms.{term}
 use Rattle.semantics.specs.Steps.{makeOf}
-use Rattle.semantics.specs.Rules.{every}
 use Rattle.semantics.specs.Opening.{inputTaken, inputTerm}
-use Rattle.semantics.proofs.Every.{every-all, every-miss}
 use Rattle.terms.specs.Gives.{from, Gives}
 use Rattle.terms.proofs.Arrays.{from-all}
 use Rattle.terms.proofs.Gives.{gives-value, then-stop, then-on}

@@ -8,14 +8,13 @@ use native.Mathlib.Omega.{arith}
 use lib.ListN.{length, replicate, length-replicate}
 use lib.Dec.{eqb, ltb}
 use borrow.Author.Tests.{eqb-true, ltb-false}
-use Rattle.notation.specs.Notation.{pick, with, if_then_else_, unless_then_else_}
+use Rattle.notation.specs.Notation.{pick, with, if_then_else_, unless_then_else_, every}
 use Rattle.semantics.specs.declared.Term.{Term}
 use Rattle.semantics.specs.declared.Input.{Input}
 use Rattle.semantics.specs.declared.Session.{Session}
 use Rattle.semantics.specs.declared.Opened.{Opened}
 use Rattle.semantics.specs.Numbers.{leastTable, mostTable, tableSize, badInput}
 use Rattle.semantics.specs.Terms.{termsIn, imageOf}
-use Rattle.semantics.specs.Rules.{every}
 use Rattle.semantics.specs.Steps.{Got, gave, refused, settingOf}
 use Rattle.semantics.specs.Opening.{badTableSize, inputTaken, opening, openingFrom, sessionOf, openOf}
 use Rattle.terms.specs.Search.{codeSetting}

@@ -10,7 +10,7 @@ use terms::Made;
 ghost use mathlib.Core.Path.{_≡_};
 ghost use Prim.Native.Nat.{_-_, _≤_};
 ghost use lib.ListN.{getD};
-ghost use Rattle.semantics.specs.Rules.{every};
+ghost use Rattle.notation.specs.Notation.{every};
 ghost use Rattle.semantics.specs.Opening.{badTableSize, inputTaken, inputTerm, sessionOf, openOf};
 ghost use Rattle.terms.specs.Gives.{Gives, from};
 ghost use Rattle.opening.specs.Openings.{noInput, openFrom, openAll};

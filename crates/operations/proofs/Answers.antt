@@ -6,7 +6,7 @@ use Prim.Native.Nat.{ℕ, _<_, _≤_}
 use native.Mathlib.Nat.{sub-zero}
 use lib.ListN.{length, replicate}
 use borrow.Author.Tests.{lt-ltb, le-ltb}
-use Rattle.notation.specs.Notation.{with, if_then_else_, if_below_then_else_, unless_then_else_}
+use Rattle.notation.specs.Notation.{with, if_then_else_, if_below_then_else_, unless_then_else_, every}
 use Rattle.semantics.specs.declared.Input.{Input}
 use Rattle.semantics.specs.declared.Result.{Result}
 use Rattle.semantics.specs.declared.Session.{Session}
@@ -14,7 +14,7 @@ use Rattle.semantics.specs.declared.Outcome.{Outcome}
 use Rattle.semantics.specs.declared.Outcome.the-variants.{Refused}
 use Rattle.semantics.specs.Numbers.{misfit, badInput, badNumber, badResult, badAllowance}
 use Rattle.semantics.specs.Terms.{termsIn}
-use Rattle.semantics.specs.Rules.{every, ruleRefusalOf}
+use Rattle.semantics.specs.Rules.{ruleRefusalOf}
 use Rattle.semantics.specs.Opening.{inputTaken}
 use Rattle.semantics.specs.Fits.{fitsOf}
 use Rattle.semantics.specs.Evaluate.{badDepth}

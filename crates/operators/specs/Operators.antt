@@ -1,11 +1,11 @@
 -- The operators by their codes: one table of operand counts and result kinds, and what the codes 1 to 12 give on words
 -- (document 01, "Operators", and the codes 32 to 35 of "Terms"). Assumes nothing.
 use Prim.Native.Nat.{ℕ, _%_}
-use mathlib.Core.Bool.{Bool}
+use mathlib.Core.Bool.{Bool, true, false}
 use mathlib.Core.List.{List, [], _∷_}
 use lib.Dec.{eqb, ltb}
 use lib.ListN.{getD}
-use Rattle.notation.specs.Notation.{if_equals_then_else_, bit}
+use Rattle.notation.specs.Notation.{if_equals_then_else_}
 use Rattle.words.specs.Words.{width, sumOf, differenceOf, productOf, andOf, orOf, xorOf, leftOf, rightOf, onesOf, zerosOf}
 
 -- "Operand counts and result kinds stand in one constant table": for each code its operands, and 4 more where it gives a truth; 0: no such code.
@@ -26,6 +26,11 @@ operandsOf op = rowOf op % 4
 unfoldable pub givesTruthOf : ℕ → Bool
 givesTruthOf op = ltb 4 (rowOf op)
 
+-- a truth as a number
+abbrev pub bitOf : Bool → ℕ
+bitOf true = 1
+bitOf false = 0
+
 -- What the codes 1 to 12 give on words: a word, or a truth as 0 or 1.
 unfoldable pub operateOf : ℕ → ℕ → ℕ → ℕ
 operateOf op x y =
@@ -39,5 +44,5 @@ operateOf op x y =
     if op equals 8 then rightOf width x y else
     if op equals 9 then onesOf x else
     if op equals 10 then zerosOf width x else
-    if op equals 11 then bit (ltb x y) else
-    bit (eqb x y)
+    if op equals 11 then bitOf (ltb x y) else
+    bitOf (eqb x y)

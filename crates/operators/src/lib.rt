@@ -2,8 +2,7 @@
 // 1 to 12 give on words. No public function has a `requires`.
 use words::Word;
 ghost use mathlib.Core.Path.{_≡_};
-ghost use Rattle.notation.specs.Notation.{bit as «bit-of»};
-ghost use Rattle.operators.specs.Operators.{rowOf, operandsOf, givesTruthOf, operateOf};
+ghost use Rattle.operators.specs.Operators.{rowOf, operandsOf, givesTruthOf, bitOf, operateOf};
 
 // For each code its operands, and 4 more where it gives a truth; 0: no such code.
 const OPERATORS: [u8; 36] = [
@@ -47,7 +46,7 @@ const OPERATORS: [u8; 36] = [
 
 // A truth as a number.
 fn bit(b: bool) -> Word
-    ensures { λ r. ⌜ r ≡ «bit-of» b ⌝ }
+    ensures { λ r. ⌜ r ≡ bitOf b ⌝ }
 {
     if b { 1 } else { 0 }
 }

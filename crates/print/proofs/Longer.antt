@@ -11,11 +11,12 @@ use lib.Seq.{take-all, length-take-le, getD-take}
 use borrow.Author.Tests.{leb-true, leb-false, le-leb, lt-ltb}
 use Rattle.words.specs.Words.{wordBytes, joinOf}
 use Rattle.notation.specs.Notation.{with, if_then_else_, if_equals_then_else_, if_below_then_else_, unless_then_else_}
+use Rattle.notation.proofs.Every.{up-same}
 use Rattle.semantics.specs.declared.Session.{Session}
 use Rattle.semantics.specs.declared.Opened.{Opened}
 use Rattle.semantics.specs.Numbers.{inputCount, ruleBytes, mostTable, misfit, ruleSize}
 use Rattle.semantics.specs.Records.{pairAt, wordAt}
-use Rattle.semantics.specs.Rules.{upTo, badRuleSize, ruleRefusalOf}
+use Rattle.semantics.specs.Rules.{badRuleSize, ruleRefusalOf}
 use Rattle.semantics.specs.Opening.{openOf}
 use Rattle.semantics.specs.Fits.{fitsOf}
 use Rattle.semantics.specs.Evaluate.{refusedBy, evaluateOf}
@@ -45,12 +46,6 @@ unfolding evaluationLines
 same-lines a b h k x t = rw (long-refused a h x t, long-refused b k x t)
 
 -- ---- the inputs stand before what is cut off
-
--- two tests that agree below n
-up-same : (n : ℕ) (f g : ℕ → Bool) → ((i : ℕ) → i < n → f i ≡ g i) → upTo n f ≡ upTo n g
-unfolding upTo
-up-same zero f g h = refl
-up-same (suc n) f g h = rw (up-same n f g (λ i l. h i (omega arith)), h n (omega arith))
 
 -- an input s, and its first n bytes, which are fewer
 module _ (n : ℕ) (s : List ℕ) (enough : inputBytes + ruleBytes < n) (long : n < length s) where

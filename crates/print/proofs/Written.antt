@@ -7,12 +7,11 @@ use native.Mathlib.Omega.{arith}
 use lib.ListN.{length, take, drop, replicate, length-drop}
 use lib.Seq.{take-all}
 use borrow.Author.Tests.{eq-eqb, ne-eqb}
-use Rattle.notation.specs.Notation.{with, if_then_else_, if_equals_then_else_, unless_then_else_}
+use Rattle.notation.specs.Notation.{with, if_then_else_, if_equals_then_else_, unless_then_else_, every}
 use Rattle.semantics.specs.declared.Input.{Input}
 use Rattle.semantics.specs.declared.Opened.{Opened}
 use Rattle.semantics.specs.Numbers.{inputCount, mostTable, badInput}
 use Rattle.semantics.specs.Opening.{badTableSize, inputTaken, openOf}
-use Rattle.semantics.specs.Rules.{every}
 use Rattle.semantics.specs.Print.{inputBytes, refusal, inputsFrom, inputsWhole, evaluationLines, openingLines, printedOf}
 use Rattle.print.specs.Written.{lineText, linesText, writtenOf}
 use Rattle.text.specs.Appends.{Writes}

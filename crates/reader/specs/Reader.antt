@@ -1,10 +1,8 @@
 -- What the reader promises, and its work list, which holds a number for each term. Assumes nothing.
-use mathlib.Core.Path.{_≡_}
 use mathlib.Core.Bool.{Bool, true}
 use mathlib.Core.List.{List}
 use Prim.Native.Nat.{ℕ, _/_, _%_}
 use lib.Dec.{ltb}
-use lib.ListN.{getD}
 use Rattle.words.specs.Words.{wordLimit}
 use Rattle.notation.specs.Notation.{if_equals_then_else_, if_below_then_else_}
 use Rattle.semantics.specs.declared.Input.{Input}
@@ -14,7 +12,8 @@ use Rattle.semantics.specs.declared.Outcome.{Outcome}
 use Rattle.semantics.specs.declared.Outcome.the-variants.{Refused}
 use Rattle.semantics.specs.Numbers.{freeTruth, workShort}
 use Rattle.semantics.specs.Terms.{termsIn}
-use Rattle.semantics.specs.Reading.{readingOf, nothing, nth, readings, readIn}
+use Rattle.semantics.specs.Reading.{readingOf, nothing, termReading, readings, readIn}
+use Rattle.reader.specs.Work.{heldOf, Holds}
 
 -- 13, of one input: "a free truth given a number over 1" is not taken
 unfoldable pub numberTaken : Input → ℕ → Bool
@@ -29,9 +28,9 @@ unfoldable pub unpackedOf : ℕ → Reading
 unpackedOf n = readingOf (n / wordLimit % 256) (n % wordLimit)
 
 -- what the term k reads as, of the first i in a work list
-unfoldable pub lowerOf : List ℕ → ℕ → ℕ → Reading
-lowerOf work i k = if k below i then unpackedOf (getD work k 0) else nothing
+abbrev pub lowerOf : List ℕ → ℕ → ℕ → Reading
+lowerOf work i k = heldOf unpackedOf nothing work i k
 
 -- the work list holds what the first i terms of the table s read as
-pub record Reads (numbers s : List ℕ) (i : ℕ) (work : List ℕ) : Type 0 where
-  pub is : (k : ℕ) → lowerOf work i k ≡ nth (readings numbers (termsIn s i)) k
+abbrev pub Reads : List ℕ → List ℕ → ℕ → List ℕ → Type 0
+Reads numbers s i work = Holds unpackedOf (termReading numbers) nothing s i work

@@ -9,12 +9,12 @@ use lib.ListN.{length, getD, set, length-set, replicate}
 use lib.Seq.{set-out, getD-set-same, getD-set-other}
 use lib.Dec.{eqb, ltb}
 use borrow.Author.Tests.{eqb-true, eqb-false, ltb-true, ltb-false, not-true}
-use Rattle.notation.specs.Notation.{pick, with, if_equals_then_else_}
+use Rattle.notation.specs.Notation.{pick, with, if_equals_then_else_, every}
+use Rattle.notation.proofs.Every.{up-stop, up-end}
 use Rattle.semantics.specs.declared.Record.{Record}
 use Rattle.semantics.specs.Numbers.{procedureRecord, letRecord, ifRecord, recordLimit, inputCount}
 use Rattle.semantics.specs.Records.{recordAt}
-use Rattle.semantics.specs.Rules.{Part, every, partsOf, placesOf, toldOf, bindingsBelow, scopedOf}
-use Rattle.rules.proofs.Follow.{up-stop, up-end}
+use Rattle.semantics.specs.Rules.{Part, partsOf, placesOf, toldOf, bindingsBelow, scopedOf}
 
 -- a store past the end of a list
 pub put-past : (m : List ℕ) (i v : ℕ) → length m ≤ i → m ≡ set m i v

@@ -1,18 +1,16 @@
--- What code that went one way at a test has to show, beside the laws of notation: `&&` and `||`, lists of at most two, the size of a
--- rule, and a pass over its records. `tests` is the ruleset for `search`. Assumes nothing.
+-- What code that went one way at a test has to show, beside the laws of notation: `&&` and `||`, lists of at most two, and the size of a
+-- rule. `tests` is the ruleset for `search`. Assumes nothing.
 use mathlib.Core.Path.{_≡_, refl, sym, _∙_}
 use mathlib.Core.Bool.{Bool, true, false, _&&_, _||_, true≢false, false≢true}
 use mathlib.Core.List.{List, [], _∷_}
-use Prim.Native.Nat.{ℕ, zero, suc, _+_, _-_, _<_, _≤_}
-use native.Mathlib.Numerals.{add-one}
-use native.Mathlib.Omega.{arith}
+use Prim.Native.Nat.{ℕ, zero, suc, _≤_}
 use lib.Dec.{eqb, ltb}
 use lib.ListN.{take}
-use borrow.Author.Tests.{lt-ltb, le-ltb, eq-eqb, ne-eqb, ltb-false, eqb-true, eqb-false, not-true, not-false}
-use Rattle.notation.specs.Notation.{pick, if_then_else_}
+use borrow.Author.Tests.{lt-ltb, le-ltb, eq-eqb, ne-eqb, ltb-false, not-true, not-false}
+use Rattle.notation.specs.Notation.{pick, if_then_else_, every}
 use Rattle.notation.proofs.Follow.{values}
 use Rattle.semantics.specs.Numbers.{ruleBytes}
-use Rattle.semantics.specs.Rules.{upTo, every, badRuleSize}
+use Rattle.semantics.specs.Rules.{badRuleSize}
 
 -- ---- `&&` and `||`
 
@@ -35,14 +33,10 @@ module _ (x y : Bool) {z : Bool} where
 
 pub ruleset tests = (values, and-true, and-false, or-true, or-false, lt-ltb, le-ltb, eq-eqb, ne-eqb, not-true, not-false, called)
 
--- what a passed test says: of `&&`, and of the same as a condition
+-- what a passed test says
 pub and-both : (x y : Bool) → (x && y) ≡ true → (x ≡ true) × (y ≡ true)
 and-both true y h = (refl, h)
 and-both false y h = absurd (false≢true h)
-
-pub pick-both : (x y : Bool) → pick x y false ≡ true → (x ≡ true) × (y ≡ true)
-pick-both true y h = (refl, h)
-pick-both false y h = absurd (false≢true h)
 
 -- ---- the first n of two
 
@@ -87,48 +81,3 @@ good-size l e h = go (eqb l 0) (ltb ruleBytes l) _ refl (sym e ∙ h)
     go x false z q g = ltb-false ruleBytes l q
     go true true z q g = absurd (true≢false g)
     go false true z q g = absurd (true≢false g)
-
--- ---- a pass over the records
-
--- what holds of each number before i, and of i, holds of each before i + 1
-pub last : (P : ℕ → Type 0) (i : ℕ) → ((k : ℕ) → k < i → P k) → P i → (k : ℕ) → k < i + 1 → P k
-last P i f p k h = go (eqb k i) refl
-  where
-    go : (b : Bool) → eqb k i ≡ b → P k
-    go true q = rw (eqb-true k i q) p
-    go false q = f k (omega (arith, eqb-false k i q))
-
-module _ (f : ℕ → Bool) where
-  pub up-start : upTo 0 f ≡ true
-  unfolding upTo
-  up-start = refl
-
-  pub up-next : (i : ℕ) → upTo i f ≡ true → f i ≡ true → upTo (i + 1) f ≡ true
-  unfolding upTo if_then_else_
-  up-next i h g = rw (add-one, upTo, h, g)
-
-  up-more : (i k : ℕ) → f i ≡ false → upTo (suc k + i) f ≡ false
-  unfolding upTo if_then_else_
-  up-more i zero g = let e : suc zero + i ≡ suc i = omega arith in rw (e, upTo) (go (upTo i f))
-    where
-      go : (b : Bool) → pick b (f i) false ≡ false
-      go true = g
-      go false = refl
-  up-more i (suc k) g = let e : suc (suc k) + i ≡ suc (suc k + i) = omega arith in rw (e, upTo, up-more i k g)
-
-  -- a test of each record stops at the first that fails
-  pub up-stop : (i n : ℕ) → i < n → f i ≡ false → false ≡ upTo n f
-  up-stop i n h g = let e : n ≡ suc (n - suc i) + i = omega arith in rw e (sym (up-more i (n - suc i) g))
-
-  pub up-end : (i n : ℕ) → upTo i f ≡ true → i ≤ n → n ≤ i → true ≡ upTo n f
-  up-end i n h l k = let e : n ≡ i = omega arith in rw e (sym h)
-
-  pub up-make : (n : ℕ) → ((k : ℕ) → k < n → f k ≡ true) → upTo n f ≡ true
-  unfolding upTo if_then_else_
-  up-make zero h = refl
-  up-make (suc n) h = rw (up-make n (λ k l. h k (omega arith))) (h n (omega arith))
-
-  pub up-all : (n : ℕ) → upTo n f ≡ true → (k : ℕ) → k < n → f k ≡ true
-  unfolding upTo if_then_else_
-  up-all zero h k l = absurd (omega arith)
-  up-all (suc n) h k l = let b = pick-both (upTo n f) (f n) h in last (λ j. f j ≡ true) n (up-all n (b .0)) (b .1) k (omega arith)

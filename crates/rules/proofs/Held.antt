@@ -4,7 +4,8 @@ use mathlib.Core.Bool.{Bool, true, _&&_}
 use mathlib.Core.List.{List, [], _∷_}
 use Prim.Native.Nat.{ℕ, _+_}
 use lib.ListN.{set, take}
-use Rattle.semantics.specs.Rules.{Part, every, toldOf}
+use Rattle.notation.specs.Notation.{every}
+use Rattle.semantics.specs.Rules.{Part, toldOf}
 use Rattle.rules.specs.declared.Children.{Children}
 use Rattle.rules.specs.Passes.{partOf, childrenOf, bumpedOf, markedOf}
 use Rattle.rules.proofs.Follow.{take-two, every-none, every-one, every-two}

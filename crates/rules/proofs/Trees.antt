@@ -10,13 +10,14 @@ use lib.ListN.{length, getD, set, length-set, replicate, getD-replicate}
 use lib.Seq.{set-out, getD-set-same, getD-set-other}
 use lib.Dec.{eqb, ltb}
 use borrow.Author.Tests.{eqb-true, eqb-false, eq-eqb, ne-eqb, ltb-true, not-true}
-use Rattle.notation.specs.Notation.{pick, if_then_else_, if_equals_then_else_}
+use Rattle.notation.specs.Notation.{pick, if_then_else_, if_equals_then_else_, upTo, every}
+use Rattle.notation.proofs.Every.{pick-both, last, up-stop, up-make, up-all}
 use Rattle.semantics.specs.declared.Record.{Record}
 use Rattle.semantics.specs.Numbers.{recordLimit}
 use Rattle.semantics.specs.Records.{recordAt}
-use Rattle.semantics.specs.Rules.{Part, upTo, every, partsOf, insideOf, timesIn, timesBelow, onceOf, linkedOf}
+use Rattle.semantics.specs.Rules.{Part, partsOf, insideOf, timesIn, timesBelow, onceOf, linkedOf}
 use Rattle.rules.specs.Passes.{bumpedOf, markedOf}
-use Rattle.rules.proofs.Follow.{and-both, pick-both, last, up-stop, up-make, up-all}
+use Rattle.rules.proofs.Follow.{and-both}
 
 -- ---- the list of marks
 

@@ -24,9 +24,10 @@ ghost use mathlib.Core.List.{[], _∷_};
 ghost use Prim.Native.Nat.{_+_, _<_, _≤_, min};
 ghost use lib.Dec.{ltb};
 ghost use lib.ListN.{set, take};
+ghost use Rattle.notation.specs.Notation.{upTo, every};
 ghost use Rattle.semantics.specs.Numbers.{recordLimit};
 ghost use Rattle.semantics.specs.Records.{recordAt};
-ghost use Rattle.semantics.specs.Rules.{upTo, every, badRuleSize, usesOf, shapedOf, partsOf, insideOf, onceOf};
+ghost use Rattle.semantics.specs.Rules.{badRuleSize, usesOf, shapedOf, partsOf, insideOf, onceOf};
 ghost use Rattle.semantics.specs.Rules.{linkedOf, placesOf, toldOf, scopedOf, testsOf, ruleRefusalOf};
 ghost use Rattle.rules.specs.Passes.{partOf, childrenOf, OneMore, bumpedOf, markedOf};
 

@@ -17,6 +17,7 @@ use Rattle.semantics.specs.Merge as Merge
 use Rattle.semantics.specs.Evaluation as Evaluation
 use Rattle.semantics.specs.Fits as Fits
 use Rattle.semantics.specs.Evaluate as Evaluate
+use Rattle.semantics.specs.Fold as Fold
 use Rattle.semantics.specs.Reading as Reading
 use Rattle.semantics.specs.Run as Run
 use Rattle.semantics.specs.PlainRun as PlainRun
@@ -24,7 +25,7 @@ use Rattle.semantics.specs.History as History
 use Rattle.semantics.specs.Print as Print
 
 unfoldable notation : ℕ
-unfolding Notation.if_then_else_ Notation.if_equals_then_else_ Notation.if_below_then_else_ Notation.unless_then_else_ Notation.with
+unfolding Notation.if_then_else_ Notation.if_equals_then_else_ Notation.if_below_then_else_ Notation.unless_then_else_ Notation.with Notation.upTo Notation.every
 notation = 0
 
 unfoldable words : ℕ
@@ -40,7 +41,7 @@ unfolding Records.recordAt Records.fieldOf
 records = 0
 
 unfoldable rules : ℕ
-unfolding Rules.upTo Rules.every Rules.badRuleSize Rules.usesOf Rules.shapedOf Rules.partsOf Rules.insideOf Rules.timesIn Rules.timesBelow Rules.onceOf Rules.linkedOf Rules.placesOf Rules.toldOf Rules.bindingsBelow Rules.scopedOf Rules.testsOf Rules.ruleRefusalOf
+unfolding Rules.badRuleSize Rules.usesOf Rules.shapedOf Rules.partsOf Rules.insideOf Rules.timesIn Rules.timesBelow Rules.onceOf Rules.linkedOf Rules.placesOf Rules.toldOf Rules.bindingsBelow Rules.scopedOf Rules.testsOf Rules.ruleRefusalOf
 rules = 0
 
 unfoldable terms : ℕ
@@ -83,12 +84,16 @@ unfoldable evaluate : ℕ
 unfolding Evaluate.refusedBy Evaluate.haltedAgain Evaluate.evaluated Evaluate.badDepth Evaluate.evaluateOf
 evaluate = 0
 
+unfoldable fold : ℕ
+unfolding Fold.numbered Fold.foldTerms
+fold = 0
+
 unfoldable reading : ℕ
-unfolding Reading.isTrue Reading.isTruth Reading.isWord Reading.passes Reading.resultReading Reading.operandsAreWords Reading.operationReading Reading.operatorReading Reading.termReading Reading.nth Reading.readings Reading.valueOutcome Reading.resultOutcome Reading.numbersTaken Reading.resultTaken Reading.readIn Reading.readOutcome Reading.readOf
+unfolding Reading.isTrue Reading.isTruth Reading.isWord Reading.passes Reading.resultReading Reading.operandsAreWords Reading.operationReading Reading.operatorReading Reading.termReading Reading.readings Reading.valueOutcome Reading.resultOutcome Reading.numbersTaken Reading.resultTaken Reading.readIn Reading.readOutcome Reading.readOf
 reading = 0
 
 unfoldable run : ℕ
-unfolding Run.after Run.placed Run.isFalse Run.isAWord Run.isAProcedure Run.wordIn Run.operationValue Run.wordsRun Run.operatorRun Run.datumValue Run.callRun Run.expressionRun Run.runOf Run.inputValue Run.inputsBound
+unfolding Run.after Run.placedOr Run.isFalse Run.isAWord Run.isAProcedure Run.wordIn Run.operationValue Run.wordsRun Run.operatorRun Run.datumValue Run.callRun Run.expressionRun Run.runBy Run.inputValue Run.inputsBound
 run = 0
 
 unfoldable plainRun : ℕ
@@ -104,5 +109,5 @@ unfolding Print.inputsFrom Print.inputsWhole Print.termLine Print.termLines Prin
 print = 0
 
 unfoldable pub computing : ℕ
-unfolding notation words operators records rules terms steps factory opening states walk merge evaluation fits evaluate reading run plainRun history print
+unfolding notation words operators records rules terms steps factory opening states walk merge evaluation fits evaluate fold reading run plainRun history print
 computing = 0

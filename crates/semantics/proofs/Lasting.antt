@@ -11,7 +11,7 @@ use Rattle.notation.specs.Notation.{pick, with, if_then_else_, if_equals_then_e
 use Rattle.semantics.specs.declared.Record.{Record}
 use Rattle.semantics.specs.Numbers.{inputCount}
 use Rattle.semantics.specs.Records.{recordAt}
-use Rattle.semantics.specs.Run.{Value, truth, word, procedure, binding, none, Ended, gives, aborts, errs, spends, Running, after, placed, isFalse, callRun, expressionRun, runOf}
+use Rattle.semantics.specs.Run.{Value, truth, word, procedure, binding, none, Ended, gives, aborts, errs, spends, Running, after, placed, isFalse, callRun, expressionRun, runBy, runOf}
 use Rattle.semantics.specs.PlainRun.{Stored, ended, full, Storing, onward, taking, callStored, expressionStored, storedOf, startedOf}
 use Rattle.semantics.specs.Bindings.{Making, callMakes, letMakes, expressionMakes, bindingsMade}
 
@@ -77,7 +77,7 @@ module _ (room : ℕ) (rule : List ℕ) where
     if-lasts true q r e k l = ih r e k l
     if-lasts false q r e k l = ih q e k l
 
-    expression-lasts : (x : Record) (i : ℕ) (e : Value) (k : ℕ) → k ≤ room → At e k (expressionStored room rule f x i) (expressionRun rule g x i) (expressionMakes rule g m x)
+    expression-lasts : (x : Record) (i : ℕ) (e : Value) (k : ℕ) → k ≤ room → At e k (expressionStored room rule f x i) (expressionRun placed rule g x i) (expressionMakes rule g m x)
     unfolding expressionStored expressionRun expressionMakes
     expression-lasts x i e k l =
         at-equal _ _ (record { is = plain k l }) (
@@ -93,7 +93,7 @@ module _ (room : ℕ) (rule : List ℕ) where
 
   -- At every depth, of every record, in all bindings and with any places taken before.
   pub stored-lasts : (d i : ℕ) (e : Value) (k : ℕ) → k ≤ room → Lasts room (runOf rule d i e) (k + bindingsMade rule d i e) (storedOf room rule d i e k)
-  unfolding runOf storedOf bindingsMade
+  unfolding runBy storedOf bindingsMade
   stored-lasts zero i e k l = plain k l
   stored-lasts (suc d) i e k l = expression-lasts (storedOf room rule d) (runOf rule d) (bindingsMade rule d) (stored-lasts d) (recordAt rule i) i e k l .is
 

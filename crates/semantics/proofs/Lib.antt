@@ -1,4 +1,4 @@
-pub mod Every
+pub mod Fold
 pub mod Fields
 pub mod Computing
 pub mod Instances

@@ -4,11 +4,11 @@ use mathlib.Core.Bool.{Bool, true, false, not, _&&_, _||_}
 use mathlib.Core.List.{List, [], _∷_}
 use lib.Dec.{eqb, leb}
 use lib.ListN.{length, take, drop}
+use Rattle.notation.specs.Notation.{every}
 use Rattle.semantics.specs.declared.Term.{Term}
 use Rattle.semantics.specs.declared.Session.{Session}
 use Rattle.semantics.specs.Numbers.{freeTruthTerm, freeWordTerm, ruleLimit}
 use Rattle.semantics.specs.Records.{recordsIn}
-use Rattle.semantics.specs.Rules.{every}
 use Rattle.semantics.specs.Terms.{termsIn, sameOf, namesTruth, wellFormed}
 use Rattle.semantics.specs.Opening.{badTableSize, inputTaken, opening}
 

@@ -12,6 +12,7 @@ pub mod Evaluation
 pub mod Fits
 pub mod Answers
 pub mod Evaluate
+pub mod Fold
 pub mod Reading
 pub mod Run
 pub mod PlainRun

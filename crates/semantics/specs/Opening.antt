@@ -4,14 +4,13 @@ use mathlib.Core.Bool.{Bool, true, false, not, _||_}
 use mathlib.Core.List.{List, [], _∷_}
 use lib.Dec.{eqb, ltb}
 use lib.ListN.{length}
-use Rattle.notation.specs.Notation.{with, if_then_else_, if_equals_then_else_, unless_then_else_}
+use Rattle.notation.specs.Notation.{with, if_then_else_, if_equals_then_else_, unless_then_else_, every}
 use Rattle.semantics.specs.declared.Term.{Term}
 use Rattle.semantics.specs.declared.Input.{Input}
 use Rattle.semantics.specs.declared.Session.{Session}
 use Rattle.semantics.specs.declared.Opened.{Opened}
 use Rattle.semantics.specs.Numbers.{constantTruth, constantWord, freeTruth, freeWord, truthTerm, freeTruthTerm, freeWordTerm, bindingTerm, noBinding, trueNumber, leastTable, mostTable, tableSize, badInput}
 use Rattle.semantics.specs.Terms.{term, wordTermOf, truthNumber, imageOf}
-use Rattle.semantics.specs.Rules.{every}
 use Rattle.semantics.specs.Steps.{settingOf, Got, gave, refused, Make, _>>=_, _▹_, give, makeOf}
 
 -- ---- 1: "table bytes not a multiple of 8, below 272 or above 65,536"

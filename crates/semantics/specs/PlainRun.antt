@@ -2,14 +2,14 @@
 use Prim.Native.Nat.{ℕ, zero, suc, _/_, min}
 use mathlib.Core.List.{List}
 use lib.ListN.{length, replicate}
-use Rattle.notation.specs.Notation.{with, if_then_else_, if_equals_then_else_, if_below_then_else_, unless_then_else_}
+use Rattle.notation.specs.Notation.{with, if_then_else_, if_equals_then_else_, if_below_then_else_, unless_then_else_, every}
 use Rattle.semantics.specs.declared.Record.{Record}
 use Rattle.semantics.specs.declared.Input.{Input}
 use Rattle.semantics.specs.declared.Outcome.{Outcome}
 use Rattle.semantics.specs.declared.Outcome.the-variants.{Truth, Word, Procedure, Abort, Error, Refused}
 use Rattle.semantics.specs.Numbers.{datumRecord, variableRecord, procedureRecord, callRecord, operatorRecord, letRecord, ifRecord, abortRecord, inputCount, placeLimit, badInput, badNumber, badAllowance, depthSpent, storeFull, noValue}
 use Rattle.semantics.specs.Records.{recordAt, datumWord}
-use Rattle.semantics.specs.Rules.{every, ruleRefusalOf}
+use Rattle.semantics.specs.Rules.{ruleRefusalOf}
 use Rattle.semantics.specs.Opening.{inputTaken}
 use Rattle.semantics.specs.Evaluate.{badDepth}
 use Rattle.semantics.specs.Reading.{numbersTaken}

@@ -4,7 +4,7 @@ use mathlib.Core.Bool.{Bool, _&&_}
 use mathlib.Core.List.{List, [], _∷_}
 use lib.Dec.{eqb, leb}
 use lib.ListN.{getD, drop, length, replicate}
-use Rattle.notation.specs.Notation.{with, if_then_else_, if_equals_then_else_}
+use Rattle.notation.specs.Notation.{with, if_then_else_, if_equals_then_else_, upTo}
 use Rattle.words.specs.Words.{wordBytes}
 use Rattle.semantics.specs.declared.Term.{Term}
 use Rattle.semantics.specs.declared.Input.{Input}
@@ -15,7 +15,6 @@ use Rattle.semantics.specs.declared.Answer.the-variants.{Out, Halt, Refu
 use Rattle.semantics.specs.declared.Evaluated.{Evaluated}
 use Rattle.semantics.specs.Numbers.{inputCount, mostTable, badInput}
 use Rattle.semantics.specs.Records.{wordAt}
-use Rattle.semantics.specs.Rules.{upTo}
 use Rattle.semantics.specs.Terms.{termAt}
 use Rattle.semantics.specs.Opening.{openOf}
 use Rattle.semantics.specs.Evaluate.{evaluateOf}

@@ -4,8 +4,8 @@ use mathlib.Core.Bool.{Bool, true, false, not, _&&_, _||_}
 use mathlib.Core.List.{List, [], _∷_}
 use lib.Dec.{eqb, ltb}
 use lib.ListN.{getD, length, replicate}
-use Rattle.notation.specs.Notation.{with, bit, if_then_else_, if_equals_then_else_, if_below_then_else_, unless_then_else_}
-use Rattle.operators.specs.Operators.{operandsOf, givesTruthOf, operateOf}
+use Rattle.notation.specs.Notation.{with, if_then_else_, if_equals_then_else_, if_below_then_else_, unless_then_else_}
+use Rattle.operators.specs.Operators.{operandsOf, givesTruthOf, bitOf, operateOf}
 use Rattle.semantics.specs.declared.Term.{Term}
 use Rattle.semantics.specs.declared.Input.{Input}
 use Rattle.semantics.specs.declared.Result.{Result}
@@ -16,6 +16,7 @@ use Rattle.semantics.specs.declared.Outcome.the-variants.{Truth, Word, P
 use Rattle.semantics.specs.Numbers.{truthTerm, wordTerm, freeTruthTerm, freeWordTerm, operatorTerm, choiceTerm, procedureTerm, notCode, isWordCode, isProcedureCode, negationCode, conjunctionCode, disjunctionCode, truthCode, freeTruth, misfit, badNumber, badResult, workShort}
 use Rattle.semantics.specs.Terms.{termWord, termsIn, namesTruth, namesValue}
 use Rattle.semantics.specs.Fits.{fitsOf}
+use Rattle.semantics.specs.Fold.{numbered, foldTerms}
 
 -- ---- what a term reads as: a truth, a word or a procedure's record; a binding reads as nothing
 abbrev pub readingOf : ℕ → ℕ → Reading
@@ -25,7 +26,7 @@ abbrev pub nothing : Reading
 nothing = readingOf 0 0
 
 abbrev pub truthReading : Bool → Reading
-truthReading b = readingOf truthTerm (bit b)
+truthReading b = readingOf truthTerm (bitOf b)
 
 unfoldable pub isTrue : Reading → Bool
 isTrue v = if v .sort equals truthTerm then eqb (v .number) 1 else false
@@ -80,14 +81,12 @@ termReading numbers t x y z =
     nothing
 
 -- the reading with number k, of readings newest first; nothing where there is none
-unfoldable pub nth : List Reading → ℕ → Reading
-nth [] k = nothing
-nth (v ∷ vs) k = if k equals length vs then v else nth vs k
+abbrev pub nth : List Reading → ℕ → Reading
+nth vs k = numbered nothing vs k
 
 -- each term from lower ones
 unfoldable pub readings : List ℕ → List Term → List Reading
-readings numbers [] = []
-readings numbers (t ∷ ts) = with (readings numbers ts) λ vs. termReading numbers t (nth vs (t .a)) (nth vs (t .b)) (nth vs (t .c)) ∷ vs
+readings numbers ts = foldTerms (termReading numbers) nothing ts
 
 -- ---- a result, of what S, T and the value read as
 

@@ -5,22 +5,12 @@ use mathlib.Core.Bool.{Bool, true, false, not, _&&_, _||_}
 use mathlib.Core.List.{List, [], _∷_}
 use lib.Dec.{eqb, ltb}
 use lib.ListN.{getD, set, length, replicate}
-use Rattle.notation.specs.Notation.{with, if_then_else_, if_equals_then_else_, if_below_then_else_, unless_then_else_}
+use Rattle.notation.specs.Notation.{with, if_then_else_, if_equals_then_else_, if_below_then_else_, unless_then_else_, upTo, every}
 use Rattle.words.specs.Words.{wordFields}
 use Rattle.operators.specs.Operators.{operandsOf}
 use Rattle.semantics.specs.declared.Record.{Record}
 use Rattle.semantics.specs.Numbers.{datumRecord, variableRecord, procedureRecord, callRecord, operatorRecord, letRecord, ifRecord, abortRecord, errorRecord, wordDatum, isProcedureCode, inputCount, recordLimit, ruleBytes, ruleSize, badRecord, badTree, badPlace}
 use Rattle.semantics.specs.Records.{recordAt, fieldOf, recordsIn}
-
--- f of every number below n
-unfoldable pub upTo : ℕ → (ℕ → Bool) → Bool
-upTo zero f = true
-upTo (suc n) f = if upTo n f then f n else false
-
--- f of every element
-unfoldable pub every : {A : Type 0} → (A → Bool) → List A → Bool
-every f [] = true
-every f (x ∷ xs) = if f x then every f xs else false
 
 -- ---- 4: "rule bytes none, above 32,768 or not a multiple of 8"
 unfoldable pub badRuleSize : ℕ → Bool

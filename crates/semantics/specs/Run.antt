@@ -36,14 +36,22 @@ after aborts f = aborts
 after errs f = errs
 after spends f = spends
 
--- "Place 0 is the nearest binding"
-unfoldable pub placed : ℕ → Value → Value
-placed p (truth b) = none
-placed p (word w) = none
-placed p (procedure i e) = none
-placed zero (binding v e) = v
-placed (suc p) (binding v e) = placed p e
-placed p none = none
+-- how a place of the bindings is looked up
+abbrev pub Look : Type 0
+Look = ℕ → Value → Value
+
+-- "Place 0 is the nearest binding"; u past the end of the bindings
+unfoldable pub placedOr : Value → Look
+placedOr u p (truth b) = u
+placedOr u p (word w) = u
+placedOr u p (procedure i e) = u
+placedOr u zero (binding v e) = v
+placedOr u (suc p) (binding v e) = placedOr u p e
+placedOr u p none = u
+
+-- nothing past the end, where no rule that passes the tests looks
+abbrev pub placed : Look
+placed p e = placedOr none p e
 
 -- "Only false fails a test."
 unfoldable pub isFalse : Value → Bool
@@ -94,7 +102,7 @@ operatorRun op x y =
 unfoldable pub datumValue : ℕ → ℕ → Value
 datumValue op w = if op equals wordDatum then word w else truth (eqb op trueDatum)
 
--- ---- one expression, record i, which is x; `run` runs its parts
+-- ---- one expression, record i, which is x; `look` looks places up, and `run` runs its parts
 
 -- "Call: the procedure's body under its bindings and the argument; of anything else, error."
 unfoldable pub callRun : (ℕ → Running) → List ℕ → Value → Value → Ended
@@ -105,22 +113,26 @@ callRun run rule (binding u e) v = errs
 callRun run rule none v = errs
 
 -- "Procedure: its record with the bindings there."; "Let: p, then q with p's value bound. If: r on false, else q."; "Abort, error: the run stops"
-unfoldable pub expressionRun : List ℕ → (ℕ → Running) → Record → ℕ → Running
-expressionRun rule run x i =
+unfoldable pub expressionRun : Look → List ℕ → (ℕ → Running) → Record → ℕ → Running
+expressionRun look rule run x i =
     if x .kind equals datumRecord then (λ e. gives (datumValue (x .op) (datumWord x))) else
-    if x .kind equals variableRecord then (λ e. gives (placed (x .p) e)) else
+    if x .kind equals variableRecord then (λ e. gives (look (x .p) e)) else
     if x .kind equals procedureRecord then (λ e. gives (procedure i e)) else
-    if x .kind equals callRecord then (λ e. callRun run rule (placed (x .p) e) (placed (x .q) e)) else
-    if x .kind equals operatorRecord then (λ e. operatorRun (x .op) (placed (x .p) e) (placed (x .q) e)) else
+    if x .kind equals callRecord then (λ e. callRun run rule (look (x .p) e) (look (x .q) e)) else
+    if x .kind equals operatorRecord then (λ e. operatorRun (x .op) (look (x .p) e) (look (x .q) e)) else
     if x .kind equals letRecord then (λ e. after (run (x .p) e) λ v. run (x .q) (binding v e)) else
-    if x .kind equals ifRecord then (λ e. (if isFalse (placed (x .p) e) then run (x .r) else run (x .q)) e) else
+    if x .kind equals ifRecord then (λ e. (if isFalse (look (x .p) e) then run (x .r) else run (x .q)) e) else
     if x .kind equals abortRecord then (λ e. aborts) else
     (λ e. errs)
 
 -- "An expression at depth 0: the depth is spent and the run stops. This is tested first. Parts, a called body too, get one less."
-unfoldable pub runOf : List ℕ → ℕ → ℕ → Running
-runOf rule zero i e = spends
-runOf rule (suc d) i e = expressionRun rule (runOf rule d) (recordAt rule i) i e
+unfoldable pub runBy : Look → List ℕ → ℕ → ℕ → Running
+runBy look rule zero i e = spends
+runBy look rule (suc d) i e = expressionRun look rule (runBy look rule d) (recordAt rule i) i e
+
+-- the concrete run
+abbrev pub runOf : List ℕ → ℕ → ℕ → Running
+runOf rule d i e = runBy placed rule d i e
 
 -- ---- "A constant is its value, a free truth true for 1, a free word its number."
 unfoldable pub inputValue : Input → ℕ → Value

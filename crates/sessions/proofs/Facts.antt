@@ -8,13 +8,13 @@ use lib.ListN.{length, getD, take, drop, length-drop, List·getD-eq-default}
 use lib.Seq.{getD-drop}
 use lib.Dec.{ltb}
 use borrow.Author.Tests.{eqb-true, leb-true, ltb-true, ltb-false}
-use Rattle.notation.specs.Notation.{pick, if_then_else_}
+use Rattle.notation.specs.Notation.{every}
+use Rattle.notation.proofs.Every.{every-at}
 use Rattle.semantics.specs.declared.Term.{Term}
 use Rattle.semantics.specs.declared.Input.{Input}
 use Rattle.semantics.specs.declared.Session.{Session}
 use Rattle.semantics.specs.Numbers.{bindingTerm, inputCount, ruleLimit}
 use Rattle.semantics.specs.Records.{recordsIn}
-use Rattle.semantics.specs.Rules.{every}
 use Rattle.semantics.specs.Terms.{termsIn, sameOf, wellFormed}
 use Rattle.semantics.specs.Opening.{inputTaken, opening}
 use Rattle.semantics.specs.Fits.{sameTerms, noFree, isZero, fitsOf}
@@ -36,20 +36,6 @@ same-terms (t ∷ ts) (u ∷ us) h = both (sameOf t u) (sameTerms ts us) h λ p 
   where
     cons : {a b : Term} {l m : List Term} → a ≡ b → l ≡ m → _≡_ {A = List Term} (a ∷ l) (b ∷ m)
     cons e f = rw (e, f)
-
-every-at : {A : Type 0} (f : A → Bool) (d : A) (xs : List A) (k : ℕ) → every f xs ≡ true → k < length xs → f (getD xs k d) ≡ true
-unfolding every if_then_else_
-every-at f d [] k h l = absurd (omega arith)
-every-at f d (x ∷ xs) zero h l = go (f x) refl h
-  where
-    go : (b : Bool) → f x ≡ b → pick b (every f xs) false ≡ true → f x ≡ true
-    go true e r = e
-    go false e r = never r
-every-at f d (x ∷ xs) (suc k) h l = every-at f d xs k (go (f x) h) (omega arith)
-  where
-    go : (b : Bool) → pick b (every f xs) false ≡ true → every f xs ≡ true
-    go true r = r
-    go false r = never r
 
 zero-at : (s : List ℕ) (n k : ℕ) → every isZero (drop n s) ≡ true → n ≤ k → getD s k 0 ≡ 0
 unfolding isZero

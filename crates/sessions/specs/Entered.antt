@@ -4,9 +4,9 @@ use mathlib.Core.Bool.{true}
 use mathlib.Core.List.{List}
 use Prim.Native.Nat.{ℕ}
 use lib.ListN.{length}
+use Rattle.notation.specs.Notation.{every}
 use Rattle.semantics.specs.declared.Input.{Input}
 use Rattle.semantics.specs.Numbers.{inputCount}
-use Rattle.semantics.specs.Rules.{every}
 use Rattle.semantics.specs.Opening.{inputTaken, opening}
 
 -- sixteen inputs that opening takes, and the number of input 0's binding

@@ -21,7 +21,7 @@ use Rattle.typing.proofs.Grown.{Grown, still, Value as Named, value-grown, valu
 use Rattle.typing.proofs.Formed.{There}
 use Rattle.typing.proofs.Does.{Lies, Fit, Post, did, not-did, DoesKeeping, does-give, does-then, does-map, does-weaken, does-make}
 use Rattle.typing.proofs.Factory.{there-sort, binding-sort}
-use Rattle.soundness.proofs.Means.{termMeaning, meaning, meaning-grown, meaning-past}
+use Rattle.soundness.proofs.Means.{termMeaning, meaningFrom, meaning, meaning-grown, meaning-past}
 use Rattle.soundness.proofs.BySort.{there-means, means-binding}
 use Rattle.soundness.proofs.Held.{MeansValue, MeansBindings}
 
@@ -36,7 +36,7 @@ is-grown {ns} {x = x} g h = record { named = value-grown g (h .named); is = mean
 record Makes (n : ℕ) (ns : List ℕ) (v : Value) (t : Term) : Type 0 where
   lies : (ts : List Term) → laidOut n ts t ≡ true
   named : (us : List Term) (a : ℕ) → There t us a → Named us a
-  means : (f : ℕ → Value) → termMeaning ns f t ≡ v
+  means : (f : ℕ → Value) → meaningFrom ns f t ≡ v
 
 module _ (n : ℕ) (ns : List ℕ) where
   makes-truth : (w : ℕ) → Makes n ns (truth (eqb w 1)) (term truthTerm 0 (truthNumber w) 0 0)

@@ -17,7 +17,7 @@ use Rattle.semantics.specs.Run.{Value, truth, word, procedure, binding, wordIn,
 use Rattle.typing.proofs.Grown.{Sort}
 use Rattle.typing.proofs.Formed.{never, There}
 use Rattle.typing.proofs.Does.{Fit}
-use Rattle.soundness.proofs.Means.{isTrue, wrongValue, operatorMeaning, termMeaning, meaning, meaning-at}
+use Rattle.soundness.proofs.Means.{isTrue, wrongValue, operatorMeaning, termMeaning, meaningFrom, meaning, meaning-at}
 use Rattle.soundness.proofs.Constants.{isConstant}
 
 -- ---- a term by its sort
@@ -54,35 +54,35 @@ kind-of t =
 
 -- ---- a term's meaning by its kind
 module _ (ns : List ℕ) (f : ℕ → Value) (t : Term) where
-  pub means-truth : t .kind ≡ truthTerm → termMeaning ns f t ≡ truth (not (eqb (t .a) 0))
+  pub means-truth : t .kind ≡ truthTerm → meaningFrom ns f t ≡ truth (not (eqb (t .a) 0))
   unfolding termMeaning if_equals_then_else_
   means-truth k = rw k
 
-  pub means-word : t .kind ≡ wordTerm → termMeaning ns f t ≡ word (termWord t)
+  pub means-word : t .kind ≡ wordTerm → meaningFrom ns f t ≡ word (termWord t)
   unfolding termMeaning if_equals_then_else_
   means-word k = rw k
 
-  pub means-free-truth : t .kind ≡ freeTruthTerm → termMeaning ns f t ≡ truth (eqb (getD ns (t .a) 0) 1)
+  pub means-free-truth : t .kind ≡ freeTruthTerm → meaningFrom ns f t ≡ truth (eqb (getD ns (t .a) 0) 1)
   unfolding termMeaning if_equals_then_else_
   means-free-truth k = rw k
 
-  pub means-free-word : t .kind ≡ freeWordTerm → termMeaning ns f t ≡ word (getD ns (t .a) 0)
+  pub means-free-word : t .kind ≡ freeWordTerm → meaningFrom ns f t ≡ word (getD ns (t .a) 0)
   unfolding termMeaning if_equals_then_else_
   means-free-word k = rw k
 
-  pub means-operator : t .kind ≡ operatorTerm → termMeaning ns f t ≡ operatorMeaning (t .op) (f (t .a)) (f (t .b))
+  pub means-operator : t .kind ≡ operatorTerm → meaningFrom ns f t ≡ operatorMeaning (t .op) (f (t .a)) (f (t .b))
   unfolding termMeaning if_equals_then_else_
   means-operator k = rw k
 
-  pub means-choice : t .kind ≡ choiceTerm → termMeaning ns f t ≡ pick (isTrue (f (t .a))) (f (t .b)) (f (t .c))
+  pub means-choice : t .kind ≡ choiceTerm → meaningFrom ns f t ≡ pick (isTrue (f (t .a))) (f (t .b)) (f (t .c))
   unfolding termMeaning if_equals_then_else_
   means-choice k = rw k
 
-  pub means-procedure : t .kind ≡ procedureTerm → termMeaning ns f t ≡ procedure (t .a) (f (t .b))
+  pub means-procedure : t .kind ≡ procedureTerm → meaningFrom ns f t ≡ procedure (t .a) (f (t .b))
   unfolding termMeaning if_equals_then_else_
   means-procedure k = rw k
 
-  pub means-binding : t .kind ≡ bindingTerm → termMeaning ns f t ≡ binding (f (t .a)) (f (t .b))
+  pub means-binding : t .kind ≡ bindingTerm → meaningFrom ns f t ≡ binding (f (t .a)) (f (t .b))
   unfolding termMeaning if_equals_then_else_
   means-binding k = rw k
 
@@ -158,7 +158,7 @@ operator-word op x y h =
 
 -- ---- a number's meaning by its sort
 module _ (ns : List ℕ) (f : ℕ → Value) (t : Term) where
-  term-truth : (k : ℕ) → k ≡ truthTerm → Kind t k → IsTruth (termMeaning ns f t)
+  term-truth : (k : ℕ) → k ≡ truthTerm → Kind t k → IsTruth (meaningFrom ns f t)
   term-truth k e (constant-truth i) = rw (means-truth ns f t i) (a-truth _)
   term-truth k e (constant-word i) = absurd (omega arith)
   term-truth k e (free-truth i) = rw (means-free-truth ns f t i) (a-truth _)
@@ -170,7 +170,7 @@ module _ (ns : List ℕ) (f : ℕ → Value) (t : Term) where
   term-truth k e (a-binding i) = absurd (omega arith)
   term-truth k e no-kind = absurd (omega arith)
 
-  term-word : (k : ℕ) → k ≡ wordTerm → Kind t k → IsWord (termMeaning ns f t)
+  term-word : (k : ℕ) → k ≡ wordTerm → Kind t k → IsWord (meaningFrom ns f t)
   term-word k e (constant-truth i) = absurd (omega arith)
   term-word k e (constant-word i) = rw (means-word ns f t i) (a-word _)
   term-word k e (free-truth i) = absurd (omega arith)
@@ -225,11 +225,11 @@ module _ (t : Term) where
 
 -- ---- a table's numbers
 module _ {n : ℕ} {ts : List Term} (ns : List ℕ) (f : Fit n ts) where
-  pub means-at : (a : ℕ) → a < length ts → meaning ns ts a ≡ termMeaning ns (meaning ns ts) (at ts a)
+  pub means-at : (a : ℕ) → a < length ts → meaning ns ts a ≡ meaningFrom ns (meaning ns ts) (at ts a)
   means-at a h = meaning-at ns n ts a (f .formed) (f .short) h
 
-  pub there-means : {t : Term} {a : ℕ} → There t ts a → meaning ns ts a ≡ termMeaning ns (meaning ns ts) t
-  there-means {a = a} h = means-at a (h .low) ∙ ap (termMeaning ns (meaning ns ts)) (h .is)
+  pub there-means : {t : Term} {a : ℕ} → There t ts a → meaning ns ts a ≡ meaningFrom ns (meaning ns ts) t
+  there-means {a = a} h = means-at a (h .low) ∙ ap (meaningFrom ns (meaning ns ts)) (h .is)
 
   pub truth-means : {a : ℕ} → Sort truthTerm ts a → IsTruth (meaning ns ts a)
   truth-means {a} h = rw (means-at a (h .low)) (term-truth ns (meaning ns ts) (at ts a) (sortOf (at ts a)) (h .is) (kind-of (at ts a)))

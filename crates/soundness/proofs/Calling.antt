@@ -20,7 +20,7 @@ use Rattle.semantics.specs.Run.{Value, truth, word, procedure, binding, none, g
 use Rattle.typing.proofs.Grown.{Sort, sort-grown}
 use Rattle.typing.proofs.Formed.{never, Laid, laid-at, procedure-names}
 use Rattle.typing.proofs.Does.{Fit, stay, step-on, does-give, does-then, does-map, does-weaken, does-read, does-with, does-if, does-eq, does-refused}
-use Rattle.soundness.proofs.Means.{termMeaning, meaning}
+use Rattle.soundness.proofs.Means.{meaningFrom, meaning}
 use Rattle.soundness.proofs.Constants.{Const, Step, Does}
 use Rattle.soundness.proofs.BySort.{means-at, means-procedure, choice-kind, procedure-kind}
 use Rattle.soundness.proofs.Held.{MeansTruth, MeansValue, MeansBindings, truth-step, value-step, bindings-step, false-means, true-means}
@@ -41,7 +41,7 @@ module _ {n : ℕ} {ns : List ℕ} {ts : List Term} {v : Value} {x : Leaf} {g : 
 
   target-is : x .term .kind ≡ procedureTerm → g ≡ true → v ≡ procedure (x .term .a) (meaning ns ts (x .term .b))
   target-is k e =
-      sym (h .agrees e) ∙ (means-at ns f (h .number) (h .named .low) ∙ (ap (λ t. termMeaning ns (meaning ns ts) t) (h .is) ∙
+      sym (h .agrees e) ∙ (means-at ns f (h .number) (h .named .low) ∙ (ap (λ t. meaningFrom ns (meaning ns ts) t) (h .is) ∙
       means-procedure ns (meaning ns ts) (x .term) k))
 
   target-none : (x .term .kind ≡ procedureTerm → ⊥) → g ≡ true → isAProcedure v ≡ false

@@ -16,41 +16,41 @@ use Rattle.typing.proofs.Grown.{Sort, Value as Named, value-of, sort-at}
 use Rattle.typing.proofs.Formed.{never}
 use Rattle.typing.proofs.Does.{Lies, Fit, does-give, does-then, does-weaken, does-read, does-eq}
 use Rattle.typing.proofs.Factory.{there-sort, laid-not, laid-and, laid-or, laid-truth, laid-is-word, laid-is-procedure, laid-choice, laid-word, laid-binding, laid-procedure, formula, word-sort, choice-sort, procedure-sort, binding-sort, gives-not, gives-and, gives-or, gives-truth, gives-is-word, gives-is-procedure}
-use Rattle.soundness.proofs.Means.{isTrue, isProper, operatorMeaning, termMeaning, meaning}
+use Rattle.soundness.proofs.Means.{isTrue, isProper, operatorMeaning, termMeaning, meaningFrom, meaning}
 use Rattle.soundness.proofs.Constants.{isConstant, Const, const-at, Step, Does, does-make-constant}
 use Rattle.soundness.proofs.BySort.{Kind, constant-truth, constant-word, free-truth, free-word, truth-operator, word-operator, a-choice, a-procedure, a-binding, no-kind, kind-of, means-word, means-choice, means-procedure, means-binding, there-means, truth-means, word-means, procedure-means, choice-kind}
 use Rattle.soundness.proofs.Held.{MeansTruth, MeansValue, MeansBindings, truth-step, value-step, bindings-step, is-proper, false-means, true-means, known-is-false, known-is-true, unknown, named-some, named-other}
 
 -- the meanings of terms that are made
 module _ (ns : List ℕ) (f : ℕ → Value) where
-  mean-not : (x : ℕ) {b : Bool} → f x ≡ truth b → termMeaning ns f (term operatorTerm negationCode x 0 0) ≡ truth (not b)
+  mean-not : (x : ℕ) {b : Bool} → f x ≡ truth b → meaningFrom ns f (term operatorTerm negationCode x 0 0) ≡ truth (not b)
   unfolding termMeaning operatorMeaning if_equals_then_else_ if_below_then_else_
   mean-not x h = rw h
 
-  mean-and : (x y : ℕ) {b c : Bool} → f x ≡ truth b → f y ≡ truth c → termMeaning ns f (term operatorTerm conjunctionCode x y 0) ≡ truth (b && c)
+  mean-and : (x y : ℕ) {b c : Bool} → f x ≡ truth b → f y ≡ truth c → meaningFrom ns f (term operatorTerm conjunctionCode x y 0) ≡ truth (b && c)
   unfolding termMeaning operatorMeaning if_equals_then_else_ if_below_then_else_
   mean-and x y h k = rw (h, k)
 
-  mean-or : (x y : ℕ) {b c : Bool} → f x ≡ truth b → f y ≡ truth c → termMeaning ns f (term operatorTerm disjunctionCode x y 0) ≡ truth (b || c)
+  mean-or : (x y : ℕ) {b c : Bool} → f x ≡ truth b → f y ≡ truth c → meaningFrom ns f (term operatorTerm disjunctionCode x y 0) ≡ truth (b || c)
   unfolding termMeaning operatorMeaning if_equals_then_else_ if_below_then_else_
   mean-or x y h k = rw (h, k)
 
-  mean-truth : (x : ℕ) {v : Value} → f x ≡ v → isProper v ≡ true → termMeaning ns f (term operatorTerm truthCode x 0 0) ≡ truth (not (isFalse v))
+  mean-truth : (x : ℕ) {v : Value} → f x ≡ v → isProper v ≡ true → meaningFrom ns f (term operatorTerm truthCode x 0 0) ≡ truth (not (isFalse v))
   unfolding termMeaning operatorMeaning if_equals_then_else_ if_below_then_else_
   mean-truth x h k = rw (h, k)
 
-  mean-is-word : (x : ℕ) {v : Value} → f x ≡ v → termMeaning ns f (term operatorTerm isWordCode x 0 0) ≡ truth (isAWord v)
+  mean-is-word : (x : ℕ) {v : Value} → f x ≡ v → meaningFrom ns f (term operatorTerm isWordCode x 0 0) ≡ truth (isAWord v)
   unfolding termMeaning operatorMeaning if_equals_then_else_ if_below_then_else_
   mean-is-word x h = rw h
 
-  mean-is-procedure : (x : ℕ) {v : Value} → f x ≡ v → termMeaning ns f (term operatorTerm isProcedureCode x 0 0) ≡ truth (isAProcedure v)
+  mean-is-procedure : (x : ℕ) {v : Value} → f x ≡ v → meaningFrom ns f (term operatorTerm isProcedureCode x 0 0) ≡ truth (isAProcedure v)
   unfolding termMeaning operatorMeaning if_equals_then_else_ if_below_then_else_
   mean-is-procedure x h = rw h
 
-  mean-choice : (g x y : ℕ) {b : Bool} {v w : Value} → f g ≡ truth b → f x ≡ v → f y ≡ w → termMeaning ns f (term choiceTerm 0 g x y) ≡ pick b v w
+  mean-choice : (g x y : ℕ) {b : Bool} {v w : Value} → f g ≡ truth b → f x ≡ v → f y ≡ w → meaningFrom ns f (term choiceTerm 0 g x y) ≡ pick b v w
   mean-choice g x y h k i = means-choice ns f (term choiceTerm 0 g x y) refl ∙ rw (h, k, i)
 
-  pub mean-operator : (op x y : ℕ) {v w : Value} → f x ≡ v → f y ≡ w → termMeaning ns f (term operatorTerm op x y 0) ≡ operatorMeaning op v w
+  pub mean-operator : (op x y : ℕ) {v w : Value} → f x ≡ v → f y ≡ w → meaningFrom ns f (term operatorTerm op x y 0) ≡ operatorMeaning op v w
   unfolding termMeaning if_equals_then_else_
   mean-operator op x y h k = rw (h, k)
 
@@ -146,7 +146,7 @@ module _ {ns : List ℕ} {n : ℕ} {ts : List Term} {x : ℕ} {v : Value} (f : F
 module _ {l n : ℕ} {N : ℕ → Type 0} (full : N tableFull) {ns : List ℕ} where
   -- a formula, where it is not folded
   formula-does : {ts : List Term} {op a b : ℕ} {c : Bool} → givesTruthOf op ≡ true → Fit n ts → Lies n ts (term operatorTerm op a b 0) → (Const ts → ⊥)
-      → ((us : List Term) → Step n ts us → termMeaning ns (meaning ns us) (term operatorTerm op a b 0) ≡ truth c)
+      → ((us : List Term) → Step n ts us → meaningFrom ns (meaning ns us) (term operatorTerm op a b 0) ≡ truth c)
       → Does l n (makeOf (term operatorTerm op a b 0)) ts (MeansTruth ns c) N
   formula-does {op = op} {a} {b} e f h k m =
       does-weaken f (λ us x g j. record { sort = there-sort truthTerm (formula op a b e) j; is = there-means ns (g .fit) j ∙ m us g })

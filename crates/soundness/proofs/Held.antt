@@ -2,22 +2,25 @@
 -- Assumes nothing.
 use mathlib.Core.Path.{_≡_, refl, sym, ap, _∙_}
 use mathlib.Core.Bool.{Bool, true, false}
-use mathlib.Core.List.{List, [], _∷_}
+use mathlib.Core.List.{List, _∷_}
 use Prim.Native.Nat.{ℕ, _<_}
 use native.Mathlib.Omega.{arith}
 use lib.ListN.{length}
 use lib.Dec.{eqb}
-use borrow.Author.Tests.{eqb-true, eqb-false}
+use borrow.Author.Tests.{eqb-true}
 use Rattle.notation.specs.Notation.{pick, with, if_equals_then_else_}
 use Rattle.semantics.specs.declared.Term.{Term}
 use Rattle.semantics.specs.Numbers.{truthTerm, choiceTerm, bindingTerm, falseNumber, trueNumber}
 use Rattle.semantics.specs.Terms.{term, at, sortOf, knownOf, namesValue, laidOut, wellFormed}
-use Rattle.semantics.specs.Run.{Value, truth}
+use Rattle.semantics.specs.Run.{Value, truth, none}
+use Rattle.semantics.specs.Fold.{foldAt}
+use Rattle.semantics.proofs.Fold.{fold-has}
 use Rattle.typing.proofs.Grown.{at-lower, at-newest, Sort, Value as Named, sort-grown, value-grown}
-use Rattle.typing.proofs.Formed.{never, choice-names, formed-newest}
+use Rattle.typing.proofs.Formed.{never, choice-names}
+use Rattle.typing.proofs.Folds.{formed-each}
 use Rattle.typing.proofs.Does.{Fit}
 use Rattle.typing.proofs.Factory.{false-truth, true-truth, truth-value}
-use Rattle.soundness.proofs.Means.{isTrue, isProper, termMeaning, meaning, meaning-lower, meaning-newest, meaning-grown}
+use Rattle.soundness.proofs.Means.{isTrue, isProper, termMeaning, meaningFrom, meaning, meaning-grown}
 use Rattle.soundness.proofs.Constants.{Const, const-at, Step}
 use Rattle.soundness.proofs.BySort.{Kind, constant-truth, constant-word, free-truth, free-word, truth-operator, word-operator, a-choice, a-procedure, a-binding, no-kind, kind-of, means-truth, means-word, means-free-truth, means-free-word, means-operator, means-choice, means-procedure, operator-truth, operator-word, IsTruth, IsWord, constant-kind, means-at, there-means, truth-means}
 
@@ -39,7 +42,7 @@ word-proper h = ap isProper (h .is)
 
 module _ (ns : List ℕ) (f : ℕ → Value) (t : Term) where
   term-proper : (k : ℕ) → (k ≡ 0 → ⊥) → (k ≡ bindingTerm → ⊥)
-      → (t .kind ≡ choiceTerm → isProper (f (t .b)) ≡ true × isProper (f (t .c)) ≡ true) → Kind t k → isProper (termMeaning ns f t) ≡ true
+      → (t .kind ≡ choiceTerm → isProper (f (t .b)) ≡ true × isProper (f (t .c)) ≡ true) → Kind t k → isProper (meaningFrom ns f t) ≡ true
   term-proper k z b c (constant-truth i) = ap isProper (means-truth ns f t i)
   term-proper k z b c (constant-word i) = ap isProper (means-word ns f t i)
   term-proper k z b c (free-truth i) = ap isProper (means-free-truth ns f t i)
@@ -60,21 +63,19 @@ unfolding namesValue
 named-lower {t} {ts} {x} k i = record { is = rw (at-lower t ts x i) at (k .is); low = i }
 
 proper-at : (ns : List ℕ) (n : ℕ) (ts : List Term) (x : ℕ) → wellFormed n ts ≡ true → Named ts x → isProper (meaning ns ts x) ≡ true
-proper-at ns n [] x h k = let l = k .low in absurd (omega arith)
-proper-at ns n (t ∷ ts) x h k = formed-newest n t ts h λ p u v. go p (eqb x (length ts)) refl (λ y i. proper-at ns n ts y v i)
+unfolding meaning
+proper-at ns n ts x h k =
+    fold-has (termMeaning ns) none (λ us t. laidOut n us t ≡ true) (λ us y v. Named us y → isProper v ≡ true) stays newest ts (formed-each n ts h) x (k .low) k
   where
-    go : laidOut n ts t ≡ true → (b : Bool) → eqb x (length ts) ≡ b → ((y : ℕ) → Named ts y → isProper (meaning ns ts y) ≡ true)
-        → isProper (meaning ns (t ∷ ts) x) ≡ true
-    go p true e r =
-        let i : x ≡ length ts = eqb-true x (length ts) e in
-        let j : at (t ∷ ts) x ≡ t = ap (at (t ∷ ts)) i ∙ at-newest t ts in
-        ap (λ y. isProper (meaning ns (t ∷ ts) y)) i ∙ (ap isProper (meaning-newest ns t ts) ∙
-        term-proper ns (meaning ns ts) t (sortOf t) (λ z. named-some (t ∷ ts) x (k .is) (ap sortOf j ∙ z)) (λ z. named-other (t ∷ ts) x (k .is) (ap sortOf j ∙ z))
-        (λ z. let c = choice-names n ts t p z in (r (t .b) (c .1), r (t .c) (c .2))) (kind-of t))
-    go p false e r =
-        let l = k .low in
-        let i : x < length ts = omega (arith, eqb-false x (length ts) e) in
-        ap isProper (meaning-lower ns t ts x (λ z. omega arith)) ∙ r x (named-lower k i)
+    stays : (t : Term) (us : List Term) (y : ℕ) (v : Value) → y < length us → (Named us y → isProper v ≡ true) → Named (t ∷ us) y → isProper v ≡ true
+    stays t us y v l h m = h (named-lower m l)
+
+    newest : (t : Term) (us : List Term) → laidOut n us t ≡ true → ((y : ℕ) → y < length us → Named us y → isProper (foldAt (termMeaning ns) none us y) ≡ true)
+        → Named (t ∷ us) (length us) → isProper (meaningFrom ns (foldAt (termMeaning ns) none us) t) ≡ true
+    newest t us p r m =
+        let j : sortOf (at (t ∷ us) (length us)) ≡ sortOf t = ap sortOf (at-newest t us) in
+        term-proper ns (foldAt (termMeaning ns) none us) t (sortOf t) (λ z. named-some (t ∷ us) (length us) (m .is) (j ∙ z)) (λ z. named-other (t ∷ us) (length us) (m .is) (j ∙ z))
+        (λ z. let c = choice-names n us t p z in (r (t .b) (c .1 .low) (c .1), r (t .c) (c .2 .low) (c .2))) (kind-of t)
 
 -- ---- what a number is held to mean
 -- x is the number of a truth, and means b
@@ -126,13 +127,13 @@ by-case true x y h f g = f refl h
 by-case false x y h f g = g refl h
 
 module _ (ns : List ℕ) (f : ℕ → Value) (t : Term) where
-  known-false : knownOf t ≡ 0 → termMeaning ns f t ≡ truth false
+  known-false : knownOf t ≡ 0 → meaningFrom ns f t ≡ truth false
   unfolding knownOf if_equals_then_else_
   known-false h =
       by-case (eqb (t .kind) truthTerm) _ _ h (λ i h. by-case (eqb (t .a) 0) _ _ h (λ j k. means-truth ns f t (eqb-true _ _ i) ∙ rw j) (λ j k. absurd (omega arith)))
       (λ i h. absurd (omega arith))
 
-  known-true : knownOf t ≡ 1 → termMeaning ns f t ≡ truth true
+  known-true : knownOf t ≡ 1 → meaningFrom ns f t ≡ truth true
   unfolding knownOf if_equals_then_else_
   known-true h =
       by-case (eqb (t .kind) truthTerm) _ _ h (λ i h. by-case (eqb (t .a) 0) _ _ h (λ j k. absurd (omega arith)) (λ j k. means-truth ns f t (eqb-true _ _ i) ∙ rw j))

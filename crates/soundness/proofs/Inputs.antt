@@ -16,14 +16,14 @@ use Rattle.semantics.specs.Terms.{term, wordTermOf, truthNumber}
 use Rattle.semantics.specs.Steps.{Setting, Got, gave, refused, Make, deeper, next, _>>=_, _▹_, give, makeOf}
 use Rattle.semantics.specs.Opening.{inputTerm, inputsOf, chainOf, openingOf}
 use Rattle.semantics.specs.Reading.{numbersTaken}
+use Rattle.semantics.proofs.Fold.{Each}
 use Rattle.typing.proofs.Formed.{both}
 use Rattle.soundness.proofs.Constants.{isConstant, Const, const-none, const-more}
-use Rattle.soundness.proofs.Link.{Small}
+use Rattle.soundness.proofs.Link.{SmallTerm, Small}
 
 -- ---- what holds of each term stays so
 abbrev pub All : (Term → Type 0) → List Term → Type 0
-All P [] = Unit {0}
-All P (t ∷ ts) = P t × All P ts
+All P ts = Each (λ us t. P t) ts
 
 -- of the terms that a step leaves
 data Leaves (P : Term → Type 0) {A : Type 0} : Got A → Type 0 where
@@ -94,9 +94,6 @@ module _ (P : Term → Type 0) (no : P (term truthTerm 0 0 0 0)) (yes : P (term 
       go x nothing k = let w : _≡_ {A = ℕ} 0 1 = cc in absurd (omega arith)
 
 -- ---- the numbers that reading takes
-abbrev SmallTerm : List ℕ → Term → Type 0
-SmallTerm ns t = t .kind ≡ freeTruthTerm → getD ns (t .a) 0 < 2
-
 small-input : (ns : List ℕ) (i : ℕ) (x : Input) → (x .kind ≡ freeTruth → getD ns i 0 < 2) → SmallTerm ns (inputTerm i x)
 unfolding inputTerm if_equals_then_else_
 small-input ns i x h = go (eqb (x .kind) constantTruth) (eqb (x .kind) constantWord) (eqb (x .kind) freeTruth) refl
@@ -133,15 +130,11 @@ small-inputs ns i (x ∷ xs) (m ∷ ms) l k h =
 pub opening-small : (ns : List ℕ) (xs : List Input) → length xs ≤ length ns → numbersTaken xs ns ≡ true → (z : Setting) {ts : List Term} {e u : ℕ}
     → openingOf xs z [] ≡ gave ts e u → Small ns ts
 opening-small ns xs l h z {ts} q =
-    small-of ts (opening-all (SmallTerm ns) (λ k. absurd (omega arith)) (λ k. absurd (omega arith)) (λ v e k. absurd (omega arith)) xs
-    (small-inputs ns 0 xs ns l (λ j. ap (λ k. getD ns k 0) (left j)) h) z q)
+    opening-all (SmallTerm ns) (λ k. absurd (omega arith)) (λ k. absurd (omega arith)) (λ v e k. absurd (omega arith)) xs
+    (small-inputs ns 0 xs ns l (λ j. ap (λ k. getD ns k 0) (left j)) h) z q
   where
     left : (j : ℕ) → j ≡ 0 + j
     left j = omega arith
-
-    small-of : (ts : List Term) → All (SmallTerm ns) ts → Small ns ts
-    small-of [] a = tt
-    small-of (t ∷ ts) a = (a .0, small-of ts (a .1))
 
 -- ---- constant inputs
 module _ (i : ℕ) (x : Input) where

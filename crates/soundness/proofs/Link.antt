@@ -1,21 +1,23 @@
 -- Reading gives what the terms mean, where each free truth is given 0 or 1. Assumes nothing.
 use mathlib.Core.Path.{_≡_, refl, sym, ap, subst, _∙_}
 use mathlib.Core.Bool.{Bool, true, false, not, _&&_}
-use mathlib.Core.List.{List, [], _∷_}
+use mathlib.Core.List.{List}
 use Prim.Native.Nat.{ℕ, zero, suc, _<_}
 use native.Mathlib.Omega.{arith}
-use lib.ListN.{length, getD}
+use lib.ListN.{getD}
 use lib.Dec.{eqb, ltb}
 use borrow.Author.Tests.{eqb-true, ltb-true, lt-ltb}
-use Rattle.notation.specs.Notation.{pick, bit, with, if_then_else_, if_equals_then_else_, if_below_then_else_}
-use Rattle.operators.specs.Operators.{operandsOf, givesTruthOf, operateOf}
+use Rattle.notation.specs.Notation.{pick, with, if_then_else_, if_equals_then_else_, if_below_then_else_}
+use Rattle.operators.specs.Operators.{operandsOf, givesTruthOf, bitOf, operateOf}
 use Rattle.semantics.specs.declared.Term.{Term}
 use Rattle.semantics.specs.declared.Reading.{Reading}
 use Rattle.semantics.specs.Numbers.{truthTerm, wordTerm, freeTruthTerm, operatorTerm, procedureTerm, bindingTerm, notCode, isWordCode, isProcedureCode, negationCode, conjunctionCode, disjunctionCode, truthCode}
-use Rattle.semantics.specs.Terms.{at, operandsLaidOut, laidOut, wellFormed}
+use Rattle.semantics.specs.Terms.{operandsLaidOut, laidOut, wellFormed}
 use Rattle.semantics.specs.Run.{Value, truth, word, procedure, binding, none, isFalse, isAWord, isAProcedure, wordIn, operationValue, wordsRun}
 use Rattle.semantics.specs.Reading.{readingOf, nothing, truthReading, isTrue, isTruth, isWord, passes, resultReading, operandsAreWords, operationReading, operatorReading, termReading, nth, readings}
-use Rattle.typing.proofs.Formed.{never, both, by-test, formed-newest}
+use Rattle.semantics.proofs.Fold.{Each, each-both, fold-related}
+use Rattle.typing.proofs.Formed.{never, both, by-test}
+use Rattle.typing.proofs.Folds.{formed-each}
 use Rattle.soundness.proofs.Means.{isTrue as isTrueValue, isTruth as isTruthValue, isProper, wrongValue, operatorMeaning, termMeaning, meaning}
 use Rattle.soundness.proofs.Operate.{one-operand, truth-bit, operation-truth, operation-word}
 
@@ -27,10 +29,13 @@ readingIn (procedure i e) = readingOf procedureTerm i
 readingIn (binding v e) = nothing
 readingIn none = nothing
 
--- each free truth among the terms is given 0 or 1
+-- a free truth is given 0 or 1
+abbrev pub SmallTerm : List ℕ → Term → Type 0
+SmallTerm ns t = t .kind ≡ freeTruthTerm → getD ns (t .a) 0 < 2
+
+-- each one among the terms is
 abbrev pub Small : List ℕ → List Term → Type 0
-Small ns [] = Unit {0}
-Small ns (t ∷ ts) = (t .kind ≡ freeTruthTerm → getD ns (t .a) 0 < 2) × Small ns ts
+Small ns ts = Each (λ us t. SmallTerm ns t) ts
 
 -- ---- the tests of a reading
 word-same : (v : Value) → isWord (readingIn v) ≡ isAWord v
@@ -84,12 +89,12 @@ number-same (binding v e) h = never h
 number-same none h = never h
 
 -- ---- operators
-small-bit : (n : ℕ) → n < 2 → n ≡ bit (eqb n 1)
+small-bit : (n : ℕ) → n < 2 → n ≡ bitOf (eqb n 1)
 small-bit zero h = refl
 small-bit (suc zero) h = refl
 small-bit (suc (suc n)) h = absurd (omega arith)
 
-bit-small : (b : Bool) → bit b < 2
+bit-small : (b : Bool) → bitOf b < 2
 bit-small true = omega arith
 bit-small false = omega arith
 
@@ -113,7 +118,7 @@ module _ (op : ℕ) where
       small : givesTruthOf op ≡ true → operateOf op x y < 2
       small h = rw (truth-bit op x y h) (pick-small (eqb op 11))
         where
-          pick-small : (b : Bool) → pick b (bit (ltb x y)) (bit (eqb x y)) < 2
+          pick-small : (b : Bool) → pick b (bitOf (ltb x y)) (bitOf (eqb x y)) < 2
           pick-small true = bit-small (ltb x y)
           pick-small false = bit-small (eqb x y)
 
@@ -222,7 +227,7 @@ nothing-link k u v = go (eqb k bindingTerm)
     go true = record { is = refl }
     go false = record { is = refl }
 
-module _ (ns : List ℕ) (n : ℕ) (us : List Term) (t : Term) (f : ℕ → Value) (h : laidOut n us t ≡ true) (small : t .kind ≡ freeTruthTerm → getD ns (t .a) 0 < 2) where
+module _ (ns : List ℕ) (n : ℕ) (us : List Term) (t : Term) (x y z : Value) (h : laidOut n us t ≡ true) (small : SmallTerm ns t) where
   constant-small : t .kind ≡ truthTerm → t .a < 2
   unfolding laidOut if_equals_then_else_
   constant-small k =
@@ -238,42 +243,26 @@ module _ (ns : List ℕ) (n : ℕ) (us : List Term) (t : Term) (f : ℕ → Valu
   constant-same (suc zero) l = refl
   constant-same (suc (suc a)) l = absurd (omega arith)
 
-  choice-same : (if isTrue (readingIn (f (t .a))) then readingIn (f (t .b)) else readingIn (f (t .c))) ≡ readingIn (pick (isTrueValue (f (t .a))) (f (t .b)) (f (t .c)))
+  choice-same : (if isTrue (readingIn x) then readingIn y else readingIn z) ≡ readingIn (pick (isTrueValue x) y z)
   unfolding if_then_else_
-  choice-same = rw (true-same (f (t .a))) (go (isTrueValue (f (t .a))))
+  choice-same = rw (true-same x) (go (isTrueValue x))
     where
-      go : (b : Bool) → pick b (readingIn (f (t .b))) (readingIn (f (t .c))) ≡ readingIn (pick b (f (t .b)) (f (t .c)))
+      go : (b : Bool) → pick b (readingIn y) (readingIn z) ≡ readingIn (pick b y z)
       go true = refl
       go false = refl
 
-  term-link : Linked (termReading ns t (readingIn (f (t .a))) (readingIn (f (t .b))) (readingIn (f (t .c)))) (termMeaning ns f t)
+  term-link : Linked (termReading ns t (readingIn x) (readingIn y) (readingIn z)) (termMeaning ns t x y z)
   unfolding termReading termMeaning with
   term-link =
       eq-link _ _ (λ k. record { is = constant-same (t .a) (constant-small k) }) (eq-link _ _ (λ k. record { is = refl })
       (eq-link _ _ (λ k. record { is = ap (readingOf truthTerm) (small-bit (getD ns (t .a) 0) (small k)) }) (eq-link _ _ (λ k. record { is = refl })
-      (eq-link _ _ (λ k. record { is = operator-same us (t .a) (t .b) (t .op) (f (t .a)) (f (t .b)) (operator-laid k) }) (eq-link _ _ (λ k. record { is = choice-same })
-      (eq-link _ _ (λ k. record { is = refl }) (nothing-link (t .kind) (f (t .a)) (f (t .b)))))))))
-
-readings-length : (ns : List ℕ) (ts : List Term) → length (readings ns ts) ≡ length ts
-unfolding readings with
-readings-length ns [] = refl
-readings-length ns (t ∷ ts) = ap suc (readings-length ns ts)
+      (eq-link _ _ (λ k. record { is = operator-same us (t .a) (t .b) (t .op) x y (operator-laid k) }) (eq-link _ _ (λ k. record { is = choice-same })
+      (eq-link _ _ (λ k. record { is = refl }) (nothing-link (t .kind) x y)))))))
 
 -- What is read of a number is what it means.
 pub reading-link : (ns : List ℕ) (n : ℕ) (ts : List Term) → wellFormed n ts ≡ true → Small ns ts → (x : ℕ) → nth (readings ns ts) x ≡ readingIn (meaning ns ts x)
-unfolding readings with nth meaning if_equals_then_else_
-reading-link ns n [] h s x = refl
-reading-link ns n (t ∷ ts) h s x = formed-newest n t ts h λ p u v. go p (λ y. reading-link ns n ts v (s .1) y)
-  where
-    vs : List Reading
-    vs = readings ns ts
-
-    go : laidOut n ts t ≡ true → ((y : ℕ) → nth vs y ≡ readingIn (meaning ns ts y))
-        → pick (eqb x (length vs)) (termReading ns t (nth vs (t .a)) (nth vs (t .b)) (nth vs (t .c))) (nth vs x)
-        ≡ readingIn (pick (eqb x (length ts)) (termMeaning ns (meaning ns ts) t) (meaning ns ts x))
-    go p r = rw (readings-length ns ts, r (t .a), r (t .b), r (t .c), r x) (last (eqb x (length ts)))
-      where
-        last : (b : Bool) → pick b (termReading ns t (readingIn (meaning ns ts (t .a))) (readingIn (meaning ns ts (t .b))) (readingIn (meaning ns ts (t .c)))) (readingIn (meaning ns ts x))
-            ≡ readingIn (pick b (termMeaning ns (meaning ns ts) t) (meaning ns ts x))
-        last true = term-link ns n ts t (meaning ns ts) p (s .0) .is
-        last false = refl
+unfolding readings meaning
+reading-link ns n ts h s =
+    fold-related (λ r v. r ≡ readingIn v) (termReading ns) (termMeaning ns) refl (λ us t. laidOut n us t ≡ true × SmallTerm ns t)
+    (λ us t p a b c x y z i j k. rw (i, j, k) (term-link ns n us t x y z (p .0) (p .1) .is))
+    ts (each-both _ _ ts (formed-each n ts h) s)

@@ -1,21 +1,23 @@
 -- What a term stands for under sixteen numbers, as a value of the concrete run: a binding is the chain of bindings from there on. The meaning
 -- of a term is made of the meanings of those that it names, and stays as the table grows. Assumes nothing.
-use mathlib.Core.Path.{_≡_, refl, sym, _∙_}
+use mathlib.Core.Path.{_≡_, refl}
 use mathlib.Core.Bool.{Bool, true, false, not, _&&_, _||_}
-use mathlib.Core.List.{List, [], _∷_}
+use mathlib.Core.List.{List}
 use Prim.Native.Nat.{ℕ, _<_, _≤_}
-use native.Mathlib.Omega.{arith}
 use lib.ListN.{length, getD}
 use lib.Dec.{eqb}
-use borrow.Author.Tests.{eqb-true, eqb-false, eq-eqb, ne-eqb}
+use borrow.Author.Tests.{eqb-true}
 use Rattle.notation.specs.Notation.{pick, if_then_else_, if_equals_then_else_, if_below_then_else_}
 use Rattle.operators.specs.Operators.{givesTruthOf}
 use Rattle.semantics.specs.declared.Term.{Term}
 use Rattle.semantics.specs.Numbers.{truthTerm, wordTerm, freeTruthTerm, freeWordTerm, operatorTerm, choiceTerm, procedureTerm, bindingTerm, notCode, isWordCode, isProcedureCode, negationCode, conjunctionCode, disjunctionCode, truthCode, noBinding, termLimit}
 use Rattle.semantics.specs.Terms.{termWord, at, operandsLaidOut, laidOut, wellFormed}
 use Rattle.semantics.specs.Run.{Value, truth, word, procedure, binding, none, isFalse, isAWord, isAProcedure, wordIn, operationValue, wordsRun}
-use Rattle.typing.proofs.Grown.{Grown, still, more, grown-length, at-lower, at-newest}
-use Rattle.typing.proofs.Formed.{both, choice-names, procedure-names, binding-value, binding-next, operands-lower, Laid, formed-newest, laid-at}
+use Rattle.semantics.specs.Fold.{FromLower, foldAt}
+use Rattle.semantics.proofs.Fold.{fold-past}
+use Rattle.typing.proofs.Grown.{Grown}
+use Rattle.typing.proofs.Formed.{both, choice-names, procedure-names, binding-value, binding-next, operands-lower}
+use Rattle.typing.proofs.Folds.{fold-grown, fold-at}
 
 -- ---- what the tests of a value say
 abbrev pub isTrue : Value → Bool
@@ -55,43 +57,36 @@ operatorMeaning op x y =
     if op equals truthCode then truth (isProper x && not (isFalse x)) else
     wrongValue op
 
--- ---- a term, of what the terms that it names mean
-unfoldable pub termMeaning : List ℕ → (ℕ → Value) → Term → Value
-termMeaning ns f t =
+-- ---- a term, of what a, b and c mean
+unfoldable pub termMeaning : List ℕ → FromLower Value
+termMeaning ns t x y z =
     if t .kind equals truthTerm then truth (not (eqb (t .a) 0)) else
     if t .kind equals wordTerm then word (termWord t) else
     if t .kind equals freeTruthTerm then truth (eqb (getD ns (t .a) 0) 1) else
     if t .kind equals freeWordTerm then word (getD ns (t .a) 0) else
-    if t .kind equals operatorTerm then operatorMeaning (t .op) (f (t .a)) (f (t .b)) else
-    if t .kind equals choiceTerm then pick (isTrue (f (t .a))) (f (t .b)) (f (t .c)) else
-    if t .kind equals procedureTerm then procedure (t .a) (f (t .b)) else
-    if t .kind equals bindingTerm then binding (f (t .a)) (f (t .b)) else
+    if t .kind equals operatorTerm then operatorMeaning (t .op) x y else
+    if t .kind equals choiceTerm then pick (isTrue x) y z else
+    if t .kind equals procedureTerm then procedure (t .a) y else
+    if t .kind equals bindingTerm then binding x y else
     none
+
+-- a term, where f is what numbers mean
+abbrev pub meaningFrom : List ℕ → (ℕ → Value) → Term → Value
+meaningFrom ns f t = termMeaning ns t (f (t .a)) (f (t .b)) (f (t .c))
 
 -- term n of a table; none where there is none
 unfoldable pub meaning : List ℕ → List Term → ℕ → Value
-meaning ns [] n = none
-meaning ns (t ∷ ts) n = pick (eqb n (length ts)) (termMeaning ns (meaning ns ts) t) (meaning ns ts n)
+meaning ns ts n = foldAt (termMeaning ns) none ts n
 
 -- ---- as the table grows
 module _ (ns : List ℕ) where
-  pub meaning-lower : (t : Term) (ts : List Term) (a : ℕ) → (a ≡ length ts → ⊥) → meaning ns (t ∷ ts) a ≡ meaning ns ts a
-  unfolding meaning
-  meaning-lower t ts a h = rw (ne-eqb a (length ts) h)
-
-  pub meaning-newest : (t : Term) (ts : List Term) → meaning ns (t ∷ ts) (length ts) ≡ termMeaning ns (meaning ns ts) t
-  unfolding meaning
-  meaning-newest t ts = rw (eq-eqb (length ts) (length ts) refl)
-
   pub meaning-past : (ts : List Term) (a : ℕ) → length ts ≤ a → meaning ns ts a ≡ none
   unfolding meaning
-  meaning-past [] a h = refl
-  meaning-past (t ∷ ts) a h = meaning-lower t ts a (λ e. omega arith) ∙ meaning-past ts a (omega arith)
+  meaning-past = fold-past (termMeaning ns) none
 
   pub meaning-grown : {ts us : List Term} (a : ℕ) → Grown ts us → a < length ts → meaning ns us a ≡ meaning ns ts a
-  meaning-grown a still h = refl
-  meaning-grown a (more {us = us} {t = t} q) h =
-      let l = grown-length q in meaning-lower t us a (λ e. omega arith) ∙ meaning-grown a q h
+  unfolding meaning
+  meaning-grown = fold-grown (termMeaning ns) none
 
 -- ---- a term's meaning is made of the lower ones
 eq-same : {A : Type 0} {x y u v : A} (i j : ℕ) → (i ≡ j → x ≡ u) → y ≡ v → (if i equals j then x else y) ≡ (if i equals j then u else v)
@@ -121,7 +116,7 @@ module _ (ns : List ℕ) (n : ℕ) (us : List Term) (t : Term) (f g : ℕ → Va
       let i = same (t .a) (binding-value n us t h k .low) in
       let j : f (t .b) ≡ g (t .b) = binding-next n us t h k (λ e. rw e last) (λ e. same (t .b) (e .low)) in rw (i, j)
 
-  meaning-same : termMeaning ns f t ≡ termMeaning ns g t
+  meaning-same : meaningFrom ns f t ≡ meaningFrom ns g t
   unfolding termMeaning
   meaning-same =
       eq-same _ _ (λ i. refl) (eq-same _ _ (λ i. refl) (eq-same _ _ (λ i. refl) (eq-same _ _ (λ i. refl)
@@ -129,21 +124,6 @@ module _ (ns : List ℕ) (n : ℕ) (us : List Term) (t : Term) (f g : ℕ → Va
 
 -- The meaning of a term's number is the term's, over the whole table.
 pub meaning-at : (ns : List ℕ) (n : ℕ) (ts : List Term) (a : ℕ) → wellFormed n ts ≡ true → length ts ≤ termLimit → a < length ts
-    → meaning ns ts a ≡ termMeaning ns (meaning ns ts) (at ts a)
-meaning-at ns n [] a h s l = absurd (omega arith)
-meaning-at ns n (t ∷ ts) a h s l = formed-newest n t ts h λ p u v. go p v (eqb a (length ts)) refl (λ k. meaning-at ns n ts a v (omega arith) k)
-  where
-    past : meaning ns ts noBinding ≡ meaning ns (t ∷ ts) noBinding
-    past = sym (meaning-lower ns t ts noBinding (λ e. omega arith))
-
-    go : laidOut n ts t ≡ true → wellFormed n ts ≡ true → (b : Bool) → eqb a (length ts) ≡ b
-        → (a < length ts → meaning ns ts a ≡ termMeaning ns (meaning ns ts) (at ts a)) → meaning ns (t ∷ ts) a ≡ termMeaning ns (meaning ns (t ∷ ts)) (at (t ∷ ts) a)
-    go p v true e r =
-        rw (eqb-true a (length ts) e, at-newest t ts) (meaning-newest ns t ts ∙
-        meaning-same ns n ts t (meaning ns ts) (meaning ns (t ∷ ts)) p (λ x k. sym (meaning-lower ns t ts x (λ e. omega arith))) past)
-    go p v false e r =
-        let k : a < length ts = omega (arith, eqb-false a (length ts) e) in
-        let y : Laid n ts a = laid-at n ts a v k in
-        let m = grown-length (y .grown) in
-        meaning-lower ns t ts a (λ e. omega arith) ∙ (r k ∙ rw (at-lower t ts a k)
-        (meaning-same ns n (y .under) (at ts a) (meaning ns ts) (meaning ns (t ∷ ts)) (y .laid) (λ x k. sym (meaning-lower ns t ts x (λ e. omega arith))) past))
+    → meaning ns ts a ≡ meaningFrom ns (meaning ns ts) (at ts a)
+unfolding meaning
+meaning-at ns = fold-at (termMeaning ns) none λ n us t h f g same last. meaning-same ns n us t f g h same last

@@ -7,8 +7,8 @@ use native.Mathlib.Omega.{arith}
 use lib.ListN.{length}
 use lib.Dec.{eqb, ltb}
 use borrow.Author.Tests.{eqb-true, eqb-false, ne-eqb, lt-ltb}
-use Rattle.notation.specs.Notation.{pick, bit, if_then_else_, if_equals_then_else_, if_below_then_else_}
-use Rattle.operators.specs.Operators.{operandsOf, givesTruthOf, rowOf, operateOf}
+use Rattle.notation.specs.Notation.{pick, if_then_else_, if_equals_then_else_, if_below_then_else_}
+use Rattle.operators.specs.Operators.{operandsOf, givesTruthOf, rowOf, bitOf, operateOf}
 use Rattle.semantics.specs.declared.Term.{Term}
 use Rattle.semantics.specs.Numbers.{wordTerm, operatorTerm, notCode, falseNumber, trueNumber, tableFull}
 use Rattle.semantics.specs.Terms.{term, termWord, truthNumber, at}
@@ -31,7 +31,7 @@ other : (op k : ℕ) → givesTruthOf op ≡ true → givesTruthOf k ≡ false �
 other op k h e = ne-eqb op k (λ i. never (sym e ∙ (ap givesTruthOf (sym i) ∙ h)))
 
 -- an operator that gives a truth gives 0 or 1
-pub truth-bit : (op x y : ℕ) → givesTruthOf op ≡ true → operateOf op x y ≡ pick (eqb op 11) (bit (ltb x y)) (bit (eqb x y))
+pub truth-bit : (op x y : ℕ) → givesTruthOf op ≡ true → operateOf op x y ≡ pick (eqb op 11) (bitOf (ltb x y)) (bitOf (eqb x y))
 unfolding operateOf if_equals_then_else_ givesTruthOf rowOf
 truth-bit op x y h =
     rw (other op 1 h refl, other op 2 h refl, other op 3 h refl, other op 4 h refl, other op 5 h refl, other op 6 h refl, other op 7 h refl, other op 8 h refl, other op 9 h refl, other op 10 h refl)

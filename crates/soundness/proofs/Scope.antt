@@ -1,19 +1,21 @@
 -- The run with false at places past the end is the concrete run, for a rule whose places are in scope, and it gives values alone. Assumes nothing.
 use mathlib.Core.Path.{_≡_, refl, sym, ap, subst, _∙_}
 use mathlib.Core.Bool.{Bool, true, false}
-use mathlib.Core.List.{List}
+use mathlib.Core.List.{List, [], _∷_}
 use Prim.Native.Nat.{ℕ, zero, suc, _+_, _<_, _≤_}
 use native.Mathlib.Omega.{arith}
 use lib.Dec.{eqb, ltb}
-use borrow.Author.Tests.{eqb-true, ltb-true, ltb-false}
-use Rattle.notation.specs.Notation.{pick, if_then_else_, if_equals_then_else_, if_below_then_else_}
+use borrow.Author.Tests.{eqb-true, ne-eqb, ltb-true, ltb-false}
+use Rattle.notation.specs.Notation.{pick, with, if_then_else_, if_equals_then_else_, if_below_then_else_}
 use Rattle.operators.specs.Operators.{operandsOf, givesTruthOf, operateOf}
 use Rattle.semantics.specs.Numbers.{variableRecord, procedureRecord, callRecord, operatorRecord, letRecord, ifRecord, wordDatum, trueDatum, notCode, isWordCode, inputCount}
+use Rattle.semantics.specs.declared.Record.{Record}
 use Rattle.semantics.specs.Records.{recordAt}
-use Rattle.semantics.specs.Run.{Value, truth, word, procedure, binding, none, Ended, gives, aborts, errs, spends, Running, after, placed, isFalse, isAWord, isAProcedure, wordIn, operationValue, wordsRun, operatorRun, datumValue, callRun, expressionRun, runOf}
+use Rattle.semantics.specs.Rules.{part, partsOf, placesOf}
+use Rattle.semantics.specs.Run.{Value, truth, word, procedure, binding, none, Ended, gives, aborts, errs, spends, Running, after, placedOr, placed, isFalse, isAWord, isAProcedure, wordIn, operationValue, wordsRun, operatorRun, datumValue, callRun, expressionRun, runBy, runOf}
 use Rattle.soundness.proofs.Means.{isProper}
 use Rattle.soundness.proofs.Cases.{operated-is, test-run}
-use Rattle.soundness.proofs.Sim.{lookOf, totalExpression, totalOf}
+use Rattle.soundness.proofs.Sim.{lookOf, totalOf}
 
 -- how many bindings there are
 abbrev pub bound : Value → ℕ
@@ -23,9 +25,64 @@ bound (procedure i e) = 0
 bound (binding v e) = suc (bound e)
 bound none = 0
 
+-- an element of a list
+pub data In {A : Type 0} (x : A) : List A → Type 0 where
+  here : {xs : List A} → In x (x ∷ xs)
+  there : {y : A} {xs : List A} → In x xs → In x (y ∷ xs)
+
+-- ---- parts and places by a record's kind
+module _ (x : Record) where
+  body-in : x .kind ≡ procedureRecord → In (part (x .p) 1) (partsOf x)
+  unfolding partsOf if_equals_then_else_
+  body-in k = rw k here
+
+  given-in : x .kind ≡ letRecord → In (part (x .p) 0) (partsOf x)
+  unfolding partsOf if_equals_then_else_
+  given-in k = rw k here
+
+  inner-in : x .kind ≡ letRecord → In (part (x .q) 1) (partsOf x)
+  unfolding partsOf if_equals_then_else_
+  inner-in k = rw k (there here)
+
+  yes-in : x .kind ≡ ifRecord → In (part (x .q) 0) (partsOf x)
+  unfolding partsOf if_equals_then_else_
+  yes-in k = rw k here
+
+  no-in : x .kind ≡ ifRecord → In (part (x .r) 0) (partsOf x)
+  unfolding partsOf if_equals_then_else_
+  no-in k = rw k (there here)
+
+  variable-in : x .kind ≡ variableRecord → In (x .p) (placesOf x)
+  unfolding placesOf if_equals_then_else_
+  variable-in k = rw k here
+
+  called-in : x .kind ≡ callRecord → In (x .p) (placesOf x)
+  unfolding placesOf if_equals_then_else_
+  called-in k = rw k here
+
+  argument-in : x .kind ≡ callRecord → In (x .q) (placesOf x)
+  unfolding placesOf if_equals_then_else_
+  argument-in k = rw k (there here)
+
+  first-in : x .kind ≡ operatorRecord → In (x .p) (placesOf x)
+  unfolding placesOf if_equals_then_else_ with
+  first-in k = rw k (go (eqb (operandsOf (x .op)) 1))
+    where
+      go : (b : Bool) → In (x .p) (pick b (x .p ∷ []) (x .p ∷ x .q ∷ []))
+      go true = here
+      go false = here
+
+  second-in : x .kind ≡ operatorRecord → (operandsOf (x .op) ≡ 1 → ⊥) → In (x .q) (placesOf x)
+  unfolding placesOf if_equals_then_else_ with
+  second-in k d = rw (k, ne-eqb _ _ d) (there here)
+
+  tested-in : x .kind ≡ ifRecord → In (x .p) (placesOf x)
+  unfolding placesOf if_equals_then_else_
+  tested-in k = rw k here
+
 -- ---- places
 pub look-placed : (p : ℕ) (e : Value) → p < bound e → lookOf p e ≡ placed p e
-unfolding lookOf placed
+unfolding placedOr
 look-placed p (truth b) h = absurd (omega arith)
 look-placed p (word w) h = absurd (omega arith)
 look-placed p (procedure i e) h = absurd (omega arith)
@@ -38,18 +95,10 @@ pub record Under (n : ℕ) (need : ℕ → ℕ) (c m : ℕ) : Type 0 where
   pub low : c < n
   pub is : need c ≡ m
 
+-- its places are in scope, and its parts stand under the bindings that they are told
 pub record Scoped (rule : List ℕ) (n : ℕ) (need : ℕ → ℕ) : Type 0 where
-  pub variable : (i : ℕ) → i < n → recordAt rule i .kind ≡ variableRecord → recordAt rule i .p < need i + inputCount
-  pub called : (i : ℕ) → i < n → recordAt rule i .kind ≡ callRecord → recordAt rule i .p < need i + inputCount
-  pub argument : (i : ℕ) → i < n → recordAt rule i .kind ≡ callRecord → recordAt rule i .q < need i + inputCount
-  pub first : (i : ℕ) → i < n → recordAt rule i .kind ≡ operatorRecord → recordAt rule i .p < need i + inputCount
-  pub second : (i : ℕ) → i < n → recordAt rule i .kind ≡ operatorRecord → (operandsOf (recordAt rule i .op) ≡ 1 → ⊥) → recordAt rule i .q < need i + inputCount
-  pub tested : (i : ℕ) → i < n → recordAt rule i .kind ≡ ifRecord → recordAt rule i .p < need i + inputCount
-  pub body : (i : ℕ) → i < n → recordAt rule i .kind ≡ procedureRecord → Under n need (recordAt rule i .p) (need i + 1)
-  pub given : (i : ℕ) → i < n → recordAt rule i .kind ≡ letRecord → Under n need (recordAt rule i .p) (need i)
-  pub inner : (i : ℕ) → i < n → recordAt rule i .kind ≡ letRecord → Under n need (recordAt rule i .q) (need i + 1)
-  pub yes : (i : ℕ) → i < n → recordAt rule i .kind ≡ ifRecord → Under n need (recordAt rule i .q) (need i)
-  pub no : (i : ℕ) → i < n → recordAt rule i .kind ≡ ifRecord → Under n need (recordAt rule i .r) (need i)
+  pub places : {p : ℕ} (i : ℕ) → i < n → In p (placesOf (recordAt rule i)) → p < need i + inputCount
+  pub parts : {c m : ℕ} (i : ℕ) → i < n → In (part c m) (partsOf (recordAt rule i)) → Under n need c (need i + m)
 
 module _ (rule : List ℕ) (n : ℕ) (need : ℕ → ℕ) where
   -- every procedure in it has a body, and bindings enough for it; what is bound is a value
@@ -76,7 +125,7 @@ module _ (rule : List ℕ) (n : ℕ) (need : ℕ → ℕ) where
     pub good : GoodEnd p
 
   placed-good : (p : ℕ) (e : Value) → p < bound e → Good e → GoodValue (placed p e)
-  unfolding placed
+  unfolding placedOr
   placed-good p (truth b) h g = absurd (omega arith)
   placed-good p (word w) h g = absurd (omega arith)
   placed-good p (procedure i e) h g = absurd (omega arith)
@@ -161,50 +210,56 @@ module _ (rule : List ℕ) (n : ℕ) (need : ℕ → ℕ) where
     call-agrees none u h k = record { same = refl; good = tt }
 
     module _ (i : ℕ) (E : Value) (l : i < n) (h : need i + inputCount ≤ bound E) (k : Good E) where
-      place-same : (p : ℕ) → p < need i + inputCount → lookOf p E ≡ placed p E
-      place-same p q = look-placed p E (omega arith)
+      place-same : {p : ℕ} → In p (placesOf (recordAt rule i)) → lookOf p E ≡ placed p E
+      place-same {p} q = let s = scoped .places i l q in look-placed p E (omega arith)
 
-      place-good : (p : ℕ) → p < need i + inputCount → GoodValue (placed p E)
-      place-good p q = placed-good p E (omega arith) k
+      place-good : {p : ℕ} → In p (placesOf (recordAt rule i)) → GoodValue (placed p E)
+      place-good {p} q = let s = scoped .places i l q in placed-good p E (omega arith) k
 
-      part : (c : ℕ) → Under n need c (need i) → Agree (f c E) (g c E)
-      part c u = let e = u .is in ih c E (u .low) (omega arith) k
+      level : {c : ℕ} → In (part c 0) (partsOf (recordAt rule i)) → Agree (f c E) (g c E)
+      level {c} q = let u = scoped .parts i l q in let e = u .is in ih c E (u .low) (omega arith) k
+
+      under : {c : ℕ} (v : Value) → GoodValue v → In (part c 1) (partsOf (recordAt rule i)) → Agree (f c (binding v E)) (g c (binding v E))
+      under {c} v w q = let u = scoped .parts i l q in let e = u .is in ih c (binding v E) (u .low) (omega arith) (w .proper, w .good, k)
+
+      procedure-at : recordAt rule i .kind ≡ procedureRecord → GoodValue (procedure i E)
+      procedure-at q = let u = scoped .parts i l (body-in (recordAt rule i) q) in let e = u .is in record { proper = refl; good = (omega arith, u .low, k) }
 
       call-at : recordAt rule i .kind ≡ callRecord
           → Agree (callRun f rule (lookOf (recordAt rule i .p) E) (lookOf (recordAt rule i .q) E)) (callRun g rule (placed (recordAt rule i .p) E) (placed (recordAt rule i .q) E))
       call-at q =
-          rw (place-same _ (scoped .called i l q), place-same _ (scoped .argument i l q))
-          (call-agrees _ _ (place-good _ (scoped .called i l q) .good) (place-good _ (scoped .argument i l q)))
+          let a = called-in (recordAt rule i) q in let b = argument-in (recordAt rule i) q in
+          rw (place-same a, place-same b) (call-agrees _ _ (place-good a .good) (place-good b))
+
+      operator-at : recordAt rule i .kind ≡ operatorRecord
+          → operatorRun (recordAt rule i .op) (lookOf (recordAt rule i .p) E) (lookOf (recordAt rule i .q) E)
+          ≡ operatorRun (recordAt rule i .op) (placed (recordAt rule i .p) E) (placed (recordAt rule i .q) E)
+      operator-at q =
+          ap (λ v. operatorRun (recordAt rule i .op) v (lookOf (recordAt rule i .q) E)) (place-same (first-in (recordAt rule i) q)) ∙
+          operator-second (recordAt rule i .op) _ _ _ (λ d. place-same (second-in (recordAt rule i) q d))
 
       if-at : recordAt rule i .kind ≡ ifRecord
           → Agree ((if isFalse (lookOf (recordAt rule i .p) E) then f (recordAt rule i .r) else f (recordAt rule i .q)) E)
           ((if isFalse (placed (recordAt rule i .p) E) then g (recordAt rule i .r) else g (recordAt rule i .q)) E)
       if-at q =
-          rw (place-same _ (scoped .tested i l q))
-          (agree-if _ (record { is = part _ (scoped .no i l q) }) (record { is = part _ (scoped .yes i l q) }) .is)
+          rw (place-same (tested-in (recordAt rule i) q))
+          (agree-if _ (record { is = level (no-in (recordAt rule i) q) }) (record { is = level (yes-in (recordAt rule i) q) }) .is)
 
-      expression-at : AgreeAt E (totalExpression rule f (recordAt rule i) i) (expressionRun rule g (recordAt rule i) i)
-      unfolding totalExpression expressionRun
+      expression-at : AgreeAt E (expressionRun lookOf rule f (recordAt rule i) i) (expressionRun placed rule g (recordAt rule i) i)
+      unfolding expressionRun
       expression-at =
           agree-eq _ _ (λ q. record { is = record { same = refl; good = datum-good _ _ } }) (
-          agree-eq _ _ (λ q. record { is = record { same = ap gives (place-same _ (scoped .variable i l q)); good = place-good _ (scoped .variable i l q) } }) (
-          agree-eq _ _ (λ q. record { is = record { same = refl; good = record { proper = refl; good = let u = scoped .body i l q in let e = u .is in (omega arith, u .low, k) } } }) (
+          agree-eq _ _ (λ q. let v = variable-in (recordAt rule i) q in record { is = record { same = ap gives (place-same v); good = place-good v } }) (
+          agree-eq _ _ (λ q. record { is = record { same = refl; good = procedure-at q } }) (
           agree-eq _ _ (λ q. record { is = call-at q }) (
+          agree-eq _ _ (λ q. record { is = record { same = operator-at q; good = operator-good _ _ _ } }) (
           agree-eq _ _ (λ q. record {
-            is = record {
-              same = ap (λ v. operatorRun (recordAt rule i .op) v (lookOf (recordAt rule i .q) E)) (place-same _ (scoped .first i l q)) ∙
-                  operator-second (recordAt rule i .op) _ _ _ (λ d. place-same _ (scoped .second i l q d));
-              good = operator-good _ _ _;
-            };
-          }) (
-          agree-eq _ _ (λ q. record {
-            is = agree-after _ _ (part _ (scoped .given i l q))
-                (λ v w. let u = scoped .inner i l q in let e = u .is in ih _ (binding v E) (u .low) (omega arith) (w .proper, w .good, k));
+            is = agree-after _ _ (level (given-in (recordAt rule i) q)) (λ v w. under v w (inner-in (recordAt rule i) q));
           }) (
           agree-eq _ _ (λ q. record { is = if-at q }) (
           agree-eq _ _ (λ q. record { is = record { same = refl; good = tt } }) (record { is = record { same = refl; good = tt } }))))))))
 
   pub run-agrees : Scoped rule n need → (d : ℕ) → Agrees (totalOf rule d) (runOf rule d)
-  unfolding totalOf runOf
+  unfolding runBy
   run-agrees scoped zero i E l h k = record { same = refl; good = tt }
   run-agrees scoped (suc d) i E l h k = expression-at scoped (totalOf rule d) (runOf rule d) (run-agrees scoped d) i E l h k .is

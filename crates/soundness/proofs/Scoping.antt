@@ -6,39 +6,22 @@ use mathlib.Core.List.{List, [], _∷_}
 use Prim.Native.Nat.{ℕ, zero, suc, _+_, _<_, _≤_}
 use native.Mathlib.Omega.{arith}
 use lib.ListN.{length, getD, set, length-set, length-replicate}
+use lib.Seq.{getD-set-same, getD-set-other}
 use lib.Dec.{eqb, ltb}
-use borrow.Author.Tests.{eqb-true, eqb-false, eq-eqb, ne-eqb, ltb-true}
-use Rattle.notation.specs.Notation.{pick, with, if_then_else_, if_equals_then_else_}
-use Rattle.operators.specs.Operators.{operandsOf}
-use Rattle.semantics.specs.declared.Record.{Record}
-use Rattle.semantics.specs.Numbers.{variableRecord, procedureRecord, callRecord, operatorRecord, letRecord, ifRecord, inputCount, recordLimit}
+use borrow.Author.Tests.{eqb-true, eqb-false, eq-eqb, ltb-true}
+use Rattle.notation.specs.Notation.{pick, with, if_then_else_, if_equals_then_else_, every}
+use Rattle.notation.proofs.Every.{up-all}
+use Rattle.semantics.specs.Numbers.{inputCount, recordLimit}
 use Rattle.semantics.specs.Records.{recordAt, recordsIn}
-use Rattle.semantics.specs.Rules.{every, Part, part, partsOf, insideOf, timesIn, timesBelow, onceOf, linkedOf, placesOf, toldOf, bindingsBelow, scopedOf, ruleRefusalOf}
+use Rattle.semantics.specs.Rules.{Part, part, partsOf, insideOf, timesIn, timesBelow, onceOf, linkedOf, placesOf, toldOf, bindingsBelow, scopedOf, ruleRefusalOf}
 use Rattle.typing.proofs.Formed.{never, both, by-test}
-use Rattle.typing.proofs.Ruled.{up-at, tested}
-use Rattle.soundness.proofs.Scope.{Under, Scoped}
-
--- ---- lists
-data In {A : Type 0} (x : A) : List A → Type 0 where
-  here : {xs : List A} → In x (x ∷ xs)
-  there : {y : A} {xs : List A} → In x xs → In x (y ∷ xs)
+use Rattle.typing.proofs.Ruled.{tested}
+use Rattle.soundness.proofs.Scope.{In, here, there, Under, Scoped}
 
 every-in : {A : Type 0} (f : A → Bool) {x : A} (xs : List A) → every f xs ≡ true → In x xs → f x ≡ true
 unfolding every if_then_else_
 every-in f (x ∷ xs) h here = by-test (f x) (every f xs) false h (λ i e. i) (λ i e. never e)
 every-in f (y ∷ xs) h (there i) = by-test (f y) (every f xs) false h (λ _ e. every-in f xs e i) (λ _ e. never e)
-
-set-same : (m : List ℕ) (i a : ℕ) → i < length m → getD (set m i a) i 0 ≡ a
-set-same [] i a h = absurd (omega arith)
-set-same (x ∷ xs) zero a h = refl
-set-same (x ∷ xs) (suc i) a h = set-same xs i a (omega arith)
-
-set-other : (m : List ℕ) (i j a : ℕ) → (j ≡ i → ⊥) → getD (set m i a) j 0 ≡ getD m j 0
-set-other [] i j a h = refl
-set-other (x ∷ xs) zero zero a h = absurd (h refl)
-set-other (x ∷ xs) zero (suc j) a h = refl
-set-other (x ∷ xs) (suc i) zero a h = refl
-set-other (x ∷ xs) (suc i) (suc j) a h = set-other xs i j a (λ e. h (ap suc e))
 
 -- ---- what a record tells its parts
 module _ (c : ℕ) where
@@ -63,12 +46,12 @@ module _ (c : ℕ) where
   told-out d [] m h = refl
   told-out d (p ∷ ps) m h =
       let t = times-there p ps in
-      told-out d ps (set m (p .child) (d + p .more)) (omega arith) ∙ set-other m (p .child) c (d + p .more) (other p ps 0 (omega arith) (omega arith))
+      told-out d ps (set m (p .child) (d + p .more)) (omega arith) ∙ getD-set-other m (p .child) c (d + p .more) 0 (other p ps 0 (omega arith) (omega arith))
 
   told-in : (d : ℕ) {k : ℕ} (ps : List Part) (m : List ℕ) → In (part c k) ps → timesIn c ps ≤ 1 → c < length m → getD (toldOf d ps m) c 0 ≡ d + k
   unfolding toldOf
   told-in d {k} (p ∷ ps) m here h l =
-      let t = times-here (part c k) ps refl in told-out d ps (set m c (d + k)) (omega arith) ∙ set-same m c (d + k) l
+      let t = times-here (part c k) ps refl in told-out d ps (set m c (d + k)) (omega arith) ∙ getD-set-same m c (d + k) 0 l
   told-in d (p ∷ ps) m (there i) h l =
       let t = times-there p ps in let z = length-set m (p .child) (d + p .more) in
       told-in d ps (set m (p .child) (d + p .more)) i (omega arith) (omega arith)
@@ -122,63 +105,13 @@ module _ (s : List ℕ) where
             let j = times-in n p k i in
             told-out c (needOf n) (partsOf (recordAt s n)) (bindingsBelow s n) (omega arith) ∙ r k (omega arith)
 
--- ---- parts and places by a record's kind
-module _ (x : Record) where
-  body-in : x .kind ≡ procedureRecord → In (part (x .p) 1) (partsOf x)
-  unfolding partsOf if_equals_then_else_
-  body-in k = rw k here
-
-  given-in : x .kind ≡ letRecord → In (part (x .p) 0) (partsOf x)
-  unfolding partsOf if_equals_then_else_
-  given-in k = rw k here
-
-  inner-in : x .kind ≡ letRecord → In (part (x .q) 1) (partsOf x)
-  unfolding partsOf if_equals_then_else_
-  inner-in k = rw k (there here)
-
-  yes-in : x .kind ≡ ifRecord → In (part (x .q) 0) (partsOf x)
-  unfolding partsOf if_equals_then_else_
-  yes-in k = rw k here
-
-  no-in : x .kind ≡ ifRecord → In (part (x .r) 0) (partsOf x)
-  unfolding partsOf if_equals_then_else_
-  no-in k = rw k (there here)
-
-  variable-in : x .kind ≡ variableRecord → In (x .p) (placesOf x)
-  unfolding placesOf if_equals_then_else_
-  variable-in k = rw k here
-
-  called-in : x .kind ≡ callRecord → In (x .p) (placesOf x)
-  unfolding placesOf if_equals_then_else_
-  called-in k = rw k here
-
-  argument-in : x .kind ≡ callRecord → In (x .q) (placesOf x)
-  unfolding placesOf if_equals_then_else_
-  argument-in k = rw k (there here)
-
-  first-in : x .kind ≡ operatorRecord → In (x .p) (placesOf x)
-  unfolding placesOf if_equals_then_else_ with
-  first-in k = rw k (go (eqb (operandsOf (x .op)) 1))
-    where
-      go : (b : Bool) → In (x .p) (pick b (x .p ∷ []) (x .p ∷ x .q ∷ []))
-      go true = here
-      go false = here
-
-  second-in : x .kind ≡ operatorRecord → (operandsOf (x .op) ≡ 1 → ⊥) → In (x .q) (placesOf x)
-  unfolding placesOf if_equals_then_else_ with
-  second-in k d = rw (k, ne-eqb _ _ d) (there here)
-
-  tested-in : x .kind ≡ ifRecord → In (x .p) (placesOf x)
-  unfolding placesOf if_equals_then_else_
-  tested-in k = rw k here
-
 -- ---- a rule that passes the tests
 module _ (s : List ℕ) (h : ruleRefusalOf s ≡ 0) where
   -- "Each child's number is greater than its parent's"
   inside : {c m : ℕ} (i : ℕ) → i < recordsIn s → In (part c m) (partsOf (recordAt s i)) → (i < c) × (c < recordsIn s)
   unfolding linkedOf insideOf
   inside {c} {m} i l p =
-      both (every (insideOf i (recordsIn s)) (partsOf (recordAt s i))) (onceOf i (timesBelow s (recordsIn s) i)) (up-at (recordsIn s) (linkedOf s (recordsIn s)) (tested s h .linked) i l) λ a b.
+      both (every (insideOf i (recordsIn s)) (partsOf (recordAt s i))) (onceOf i (timesBelow s (recordsIn s) i)) (up-all (linkedOf s (recordsIn s)) (recordsIn s) (tested s h .linked) i l) λ a b.
       both (ltb i c) (ltb c (recordsIn s)) (every-in (insideOf i (recordsIn s)) (partsOf (recordAt s i)) a p) λ u v.
       (omega (arith, ltb-true i c u), omega (arith, ltb-true c (recordsIn s) v))
 
@@ -186,7 +119,7 @@ module _ (s : List ℕ) (h : ruleRefusalOf s ≡ 0) where
   once : (c : ℕ) → 0 < c → c < recordsIn s → timesBelow s (recordsIn s) c ≡ 1
   unfolding linkedOf onceOf if_equals_then_else_
   once c z l =
-      both (every (insideOf c (recordsIn s)) (partsOf (recordAt s c))) (pick (eqb c 0) true (eqb (timesBelow s (recordsIn s) c) 1)) (up-at (recordsIn s) (linkedOf s (recordsIn s)) (tested s h .linked) c l) λ a b.
+      both (every (insideOf c (recordsIn s)) (partsOf (recordAt s c))) (pick (eqb c 0) true (eqb (timesBelow s (recordsIn s) c) 1)) (up-all (linkedOf s (recordsIn s)) (recordsIn s) (tested s h .linked) c l) λ a b.
       by-test (eqb c 0) true (eqb (timesBelow s (recordsIn s) c) 1) b (λ i e. absurd (omega (arith, eqb-true c 0 i))) (λ i e. eqb-true _ _ e)
 
   under : {c m : ℕ} (i : ℕ) → i < recordsIn s → In (part c m) (partsOf (recordAt s i)) → Under (recordsIn s) (needOf s) c (needOf s i + m)
@@ -196,26 +129,11 @@ module _ (s : List ℕ) (h : ruleRefusalOf s ≡ 0) where
       let t = times-mono s c c (recordsIn s) (omega arith) in
       record { low = b; is = told-by s c c i a p (omega arith) (omega arith) }
 
-  level : {c : ℕ} (i : ℕ) → i < recordsIn s → In (part c 0) (partsOf (recordAt s i)) → Under (recordsIn s) (needOf s) c (needOf s i)
-  level {c} i l p = let u = under i l p in let e = u .is in record { low = u .low; is = omega arith }
-
   place : {p : ℕ} (i : ℕ) → i < recordsIn s → In p (placesOf (recordAt s i)) → p < needOf s i + inputCount
   unfolding scopedOf with
   place {p} i l q =
-      let e = every-in (λ p. ltb p (needOf s i + inputCount)) (placesOf (recordAt s i)) (up-at (recordsIn s) (scopedOf s) (tested s h .scoped) i l) q in
+      let e = every-in (λ p. ltb p (needOf s i + inputCount)) (placesOf (recordAt s i)) (up-all (scopedOf s) (recordsIn s) (tested s h .scoped) i l) q in
       omega (arith, ltb-true p (needOf s i + inputCount) e)
 
   pub scoped : Scoped s (recordsIn s) (needOf s)
-  scoped = record {
-    variable = λ i l k. place i l (variable-in (recordAt s i) k);
-    called = λ i l k. place i l (called-in (recordAt s i) k);
-    argument = λ i l k. place i l (argument-in (recordAt s i) k);
-    first = λ i l k. place i l (first-in (recordAt s i) k);
-    second = λ i l k d. place i l (second-in (recordAt s i) k d);
-    tested = λ i l k. place i l (tested-in (recordAt s i) k);
-    body = λ i l k. under i l (body-in (recordAt s i) k);
-    given = λ i l k. level i l (given-in (recordAt s i) k);
-    inner = λ i l k. under i l (inner-in (recordAt s i) k);
-    yes = λ i l k. level i l (yes-in (recordAt s i) k);
-    no = λ i l k. level i l (no-in (recordAt s i) k);
-  }
+  scoped = record { places = place; parts = under }

@@ -7,18 +7,16 @@ use Prim.Native.Nat.{ℕ, zero, suc}
 use native.Mathlib.Omega.{arith}
 use lib.Dec.{eqb}
 use borrow.Author.Tests.{eqb-true, eqb-false}
-use Rattle.notation.specs.Notation.{pick, with, if_then_else_, if_equals_then_else_}
+use Rattle.notation.specs.Notation.{pick, with, if_equals_then_else_}
 use Rattle.semantics.specs.declared.Term.{Term}
-use Rattle.semantics.specs.declared.Record.{Record}
 use Rattle.semantics.specs.declared.State.{State}
 use Rattle.semantics.specs.declared.Result.{Result}
-use Rattle.semantics.specs.Numbers.{noBinding, depthSpent, tableFull, callTooWide, datumRecord, variableRecord, procedureRecord, callRecord, operatorRecord, letRecord, ifRecord, abortRecord}
-use Rattle.semantics.specs.Records.{recordAt, datumWord}
+use Rattle.semantics.specs.Numbers.{noBinding, depthSpent, tableFull, callTooWide}
 use Rattle.semantics.specs.Terms.{at, knownOf}
 use Rattle.semantics.specs.Steps.{Make}
 use Rattle.semantics.specs.States.{mergeAssumedOf, mergeAssertedOf, assumeOf, assertOf, haltsOf, outOf, haltOf}
 use Rattle.semantics.specs.Evaluation.{Run, placeOf}
-use Rattle.semantics.specs.Run.{Value, truth, word, procedure, binding, none, Ended, gives, aborts, errs, spends, Running, after, isFalse, operatorRun, datumValue, callRun}
+use Rattle.semantics.specs.Run.{Value, truth, none, Ended, gives, aborts, errs, spends, Running, after, Look, placedOr, runBy}
 use Rattle.typing.proofs.Grown.{at-past, sort-grown, value-grown}
 use Rattle.typing.proofs.Formed.{never, Laid, laid-at, binding-value, binding-next}
 use Rattle.typing.proofs.Does.{Fit, does-then, does-map}
@@ -29,29 +27,11 @@ use Rattle.soundness.proofs.Held.{MeansTruth, MeansValue, MeansBindings
 use Rattle.soundness.proofs.Factory.{and-does, implies-does}
 
 -- ---- the run with false at places past the end
-unfoldable pub lookOf : ℕ → Value → Value
-lookOf p (truth b) = truth false
-lookOf p (word w) = truth false
-lookOf p (procedure i e) = truth false
-lookOf zero (binding v e) = v
-lookOf (suc p) (binding v e) = lookOf p e
-lookOf p none = truth false
+abbrev pub lookOf : Look
+lookOf p e = placedOr (truth false) p e
 
-unfoldable pub totalExpression : List ℕ → (ℕ → Running) → Record → ℕ → Running
-totalExpression rule run x i =
-    if x .kind equals datumRecord then (λ e. gives (datumValue (x .op) (datumWord x))) else
-    if x .kind equals variableRecord then (λ e. gives (lookOf (x .p) e)) else
-    if x .kind equals procedureRecord then (λ e. gives (procedure i e)) else
-    if x .kind equals callRecord then (λ e. callRun run rule (lookOf (x .p) e) (lookOf (x .q) e)) else
-    if x .kind equals operatorRecord then (λ e. operatorRun (x .op) (lookOf (x .p) e) (lookOf (x .q) e)) else
-    if x .kind equals letRecord then (λ e. after (run (x .p) e) λ v. run (x .q) (binding v e)) else
-    if x .kind equals ifRecord then (λ e. (if isFalse (lookOf (x .p) e) then run (x .r) else run (x .q)) e) else
-    if x .kind equals abortRecord then (λ e. aborts) else
-    (λ e. errs)
-
-unfoldable pub totalOf : List ℕ → ℕ → ℕ → Running
-totalOf rule zero i e = spends
-totalOf rule (suc d) i e = totalExpression rule (totalOf rule d) (recordAt rule i) i e
+abbrev pub totalOf : List ℕ → ℕ → ℕ → Running
+totalOf rule d i e = runBy lookOf rule d i e
 
 -- ---- what is read: an outcome of a run, or, with both formulas false, none that a run has
 pub data Seen : Type 0 where
@@ -172,13 +152,13 @@ module _ {n : ℕ} {ts : List Term} (f : Fit n ts) where
 
 module _ {ns : List ℕ} {n : ℕ} where
   look-none : {ts : List Term} (p : ℕ) → Fit n ts → MeansValue ns (lookOf p none) ts (placeOf p noBinding ts)
-  unfolding lookOf
+  unfolding placedOr
   look-none zero f = rw (place-past f zero) (truth-is-value (false-means f))
   look-none (suc p) f = rw (place-past f (suc p)) (truth-is-value (false-means f))
 
   -- a place of the bindings
   pub place-is : {ts : List Term} (p e : ℕ) {E : Value} → Fit n ts → MeansBindings ns E ts e → MeansValue ns (lookOf p E) ts (placeOf p e ts)
-  unfolding placeOf lookOf
+  unfolding placeOf placedOr
   place-is {ts} zero e {E} f h =
       let y : Laid n ts e = laid-at n ts e (f .formed) (h .sort .low) in
       rw (sym (h .is) ∙ binding-means ns f (h .sort))

@@ -1,5 +1,6 @@
 pub mod Grown
 pub mod Formed
+pub mod Folds
 pub mod Does
 pub mod Later
 pub mod Factory

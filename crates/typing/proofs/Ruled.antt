@@ -1,29 +1,21 @@
 -- What the tests 4 to 7 say of a rule that passes them, and what evaluation needs of it: a datum's op, an operator's code, and that a procedure's
 -- record is one of 4,096. Assumes nothing.
-use mathlib.Core.Path.{_≡_, refl, ap, _∙_}
+use mathlib.Core.Path.{_≡_, refl}
 use mathlib.Core.Bool.{Bool, true, false, not, _||_}
 use mathlib.Core.List.{List}
-use Prim.Native.Nat.{ℕ, zero, suc, _*_, _%_, _<_, _≤_}
+use Prim.Native.Nat.{ℕ, _*_, _%_, _<_, _≤_}
 use native.Mathlib.Omega.{arith}
 use lib.ListN.{length, List·getD-eq-default}
 use lib.Dec.{eqb, ltb}
 use borrow.Author.Tests.{eqb-true, eqb-false, ltb-true, ltb-false, ne-eqb, le-ltb}
-use Rattle.notation.specs.Notation.{pick, with, if_then_else_, if_equals_then_else_, if_below_then_else_, unless_then_else_}
+use Rattle.notation.specs.Notation.{pick, with, if_then_else_, if_equals_then_else_, if_below_then_else_, unless_then_else_, upTo}
+use Rattle.notation.proofs.Every.{up-all}
 use Rattle.operators.specs.Operators.{rowOf, operandsOf}
 use Rattle.semantics.specs.declared.Record.{Record}
 use Rattle.semantics.specs.Numbers.{datumRecord, procedureRecord, operatorRecord, wordDatum, recordLimit, ruleBytes, ruleSize, badRecord, badTree, badPlace}
 use Rattle.semantics.specs.Records.{recordAt, recordsIn}
-use Rattle.semantics.specs.Rules.{upTo, badRuleSize, usesOf, shapedOf, linkedOf, scopedOf, testsOf, ruleRefusalOf}
+use Rattle.semantics.specs.Rules.{badRuleSize, usesOf, shapedOf, linkedOf, scopedOf, testsOf, ruleRefusalOf}
 use Rattle.typing.proofs.Formed.{never, by-test}
-
-pub up-at : (n : ℕ) (f : ℕ → Bool) → upTo n f ≡ true → (i : ℕ) → i < n → f i ≡ true
-unfolding upTo if_then_else_
-up-at zero f h i l = absurd (omega arith)
-up-at (suc n) f h i l = by-test (upTo n f) (f n) false h (λ p q. go p q (eqb i n) refl (λ k. up-at n f p i k)) (λ p q. never q)
-  where
-    go : upTo n f ≡ true → f n ≡ true → (b : Bool) → eqb i n ≡ b → (i < n → f i ≡ true) → f i ≡ true
-    go p q true e r = ap f (eqb-true i n e) ∙ q
-    go p q false e r = r (omega (arith, eqb-false i n e))
 
 -- past the last record every field is zero
 past-kind : (s : List ℕ) (i : ℕ) → length s ≤ 8 * i → recordAt s i .kind ≡ 0
@@ -72,7 +64,7 @@ module _ (s : List ℕ) (h : ruleRefusalOf s ≡ 0) where
           absurd (omega (arith, eqb-false k 0 o))
 
   shape : (i k : ℕ) → recordAt s i .kind ≡ k → eqb k 0 ≡ false → shapedOf (recordAt s i) ≡ true
-  shape i k e o = up-at (recordsIn s) (λ j. shapedOf (recordAt s j)) (tested .shaped) i (inside i k e o)
+  shape i k e o = up-all (λ j. shapedOf (recordAt s j)) (recordsIn s) (tested .shaped) i (inside i k e o)
 
 -- a record that is shaped uses some of its fields
 uses-some : (x : Record) → shapedOf x ≡ true → usesOf x ≡ 4 → ⊥

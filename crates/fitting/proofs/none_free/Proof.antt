@@ -4,7 +4,7 @@ use borrow.Author.Needs.{needs}
 use mathlib.Core.Path.{_≡_}
 use Prim.Native.Nat.{_-_}
 use lib.ListN.{take}
-use Rattle.semantics.specs.Rules.{every}
+use Rattle.notation.specs.Notation.{every}
 use Rattle.semantics.specs.Terms.{termsIn}
 use Rattle.semantics.specs.Fits.{noFree}
 use Rattle.fitting.proofs.Loops.{free-end, free-next, free-miss}

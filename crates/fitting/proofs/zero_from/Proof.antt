@@ -6,8 +6,7 @@ use mathlib.Core.Bool.{false}
 use mathlib.Core.Logic.{⊎-elim}
 use Prim.Native.Nat.{_-_}
 use lib.ListN.{length, drop}
-use Rattle.notation.specs.Notation.{pick}
-use Rattle.semantics.specs.Rules.{every}
+use Rattle.notation.specs.Notation.{pick, every}
 use Rattle.semantics.specs.Fits.{isZero}
 use Rattle.fitting.proofs.Loops.{zero-end, zero-next, zero-miss}
 use Rattle.fitting.proofs.zero_from.Statement.{statement}

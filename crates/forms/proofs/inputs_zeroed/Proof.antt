@@ -4,9 +4,9 @@ use borrow.Author.Needs.{needs}
 use mathlib.Core.Path.{_≡_}
 use mathlib.Core.Bool.{true}
 use Prim.Native.Nat.{_-_, _≤_}
-use Rattle.semantics.specs.Rules.{upTo}
+use Rattle.notation.specs.Notation.{upTo}
+use Rattle.notation.proofs.Every.{up-start}
 use Rattle.semantics.specs.Print.{inputZeroed}
-use Rattle.rules.proofs.Follow.{up-start}
 use Rattle.forms.proofs.Taken.{zeroed-miss, zeroed-more, zeroed-all}
 use Rattle.forms.proofs.inputs_zeroed.Statement.{statement}
 use Rattle.forms.proofs.inputs_zeroed.Tie as tie

@@ -6,7 +6,7 @@ use Prim.Native.Nat.{_-_, _≤_}
 use lib.ListN.{length}
 use native.Mathlib.Omega.{arith}
 use Rattle.reader.specs.Reader.{Reads}
-use Rattle.reader.proofs.Work.{reads-start, reads-next, reads-end}
+use Rattle.reader.proofs.Work.{holds-start, holds-next, holds-end}
 use Rattle.reader.proofs.fill.Statement.{statement}
 use Rattle.reader.proofs.fill.Tie as tie
 
@@ -17,12 +17,12 @@ abbrev μ-loop : tie.MeasureT-loop
 μ-loop table count numbers work₀ i₀ work i = count - i
 
 loop-holds : tie.Need-loop-holds Inv-loop μ-loop
-loop-holds c = ((search needs, refl), reads-start _ _ _)
+loop-holds c = ((search needs, refl), holds-start _ _)
 
 loop-again : tie.Need-loop-again Inv-loop μ-loop
 loop-again c = (
   search needs,
-  reads-next
+  holds-next
       _
       (c .before .before .before .before .before .before .before .before .before .before .loop .inv .1)
       (omega arith)
@@ -39,4 +39,4 @@ fill-spec =
     tie.close
     (tie.spec Inv-loop μ-loop loop-holds (λ c κs. search needs) (λ c κs. search needs) (λ c κs. search needs) (λ c κs. search needs) (λ c κs. search needs)
     (λ c κs. search needs) (λ c. search needs) (λ c. search needs) (λ c. search needs) (λ c. search needs) (λ c. search needs) loop-again
-    (λ c. search needs) (λ c. search reads-end))
+    (λ c. search needs) (λ c. search holds-end))

@@ -6,8 +6,9 @@ use mathlib.Core.Path.{_≡_, sym}
 use mathlib.Core.Bool.{true}
 use Prim.Native.Nat.{_≤_, _-_}
 use native.Mathlib.Omega.{arith}
-use Rattle.semantics.specs.Rules.{upTo, bindingsBelow, scopedOf}
-use Rattle.rules.proofs.Follow.{up-start, up-next}
+use Rattle.notation.specs.Notation.{upTo}
+use Rattle.notation.proofs.Every.{up-start, up-next}
+use Rattle.semantics.specs.Rules.{bindingsBelow, scopedOf}
 use Rattle.rules.proofs.Bindings.{scoping, bindings-start, bindings-length, binding-low, scoped-by, bindings-next}
 use Rattle.rules.proofs.scopes.Statement.{statement}
 use Rattle.rules.proofs.scopes.Tie as tie

@@ -5,9 +5,10 @@ use borrow.Author.Tests.{not-true, not-false}
 use mathlib.Core.Path.{_≡_}
 use mathlib.Core.Bool.{true}
 use Prim.Native.Nat.{_≤_, _-_}
+use Rattle.notation.specs.Notation.{upTo}
+use Rattle.notation.proofs.Every.{up-start, up-next, up-stop, up-end}
 use Rattle.semantics.specs.Records.{recordAt}
-use Rattle.semantics.specs.Rules.{upTo, shapedOf}
-use Rattle.rules.proofs.Follow.{up-start, up-next, up-stop, up-end}
+use Rattle.semantics.specs.Rules.{shapedOf}
 use Rattle.rules.proofs.shapes.Statement.{statement}
 use Rattle.rules.proofs.shapes.Tie as tie
 
