@@ -80,7 +80,7 @@ module _ {l n : ℕ} {ts : List Term} {x : State} (f : Fit n ts) (h : Stated ts 
 
   datum-does : (op w : ℕ) → op ≤ wordDatum → Does l n (datumOf op w x) ts Resulted
   unfolding datumOf
-  datum-does op w k = does-eq _ _ (λ e. does-with _ _ (value-does (word-does w f) (λ us a q. q))) (λ e. does-give _ f (given h (go op k e)))
+  datum-does op w k = does-eq _ _ (λ e. value-does (word-does w f) (λ us a q. q)) (λ e. does-give _ f (given h (go op k e)))
     where
       go : (op : ℕ) → op ≤ wordDatum → (op ≡ wordDatum → ⊥) → Value ts op
       go zero k e = false-value f

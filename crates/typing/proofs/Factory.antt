@@ -239,7 +239,7 @@ module _ {l n : ℕ} {ts : List Term} (f : Fit n ts) where
   constant-does : (op w : ℕ) → Does l n (constantOf op w) ts Value
   unfolding constantOf
   constant-does op w =
-      does-with _ _ (does-if (givesTruthOf op) (λ e. does-with _ _ (does-give _ f (number-value f w))) (λ e. does-with _ _ (word-does w f)))
+      does-with _ _ (does-if (givesTruthOf op) (λ e. does-with _ _ (does-give _ f (number-value f w))) (λ e. word-does w f))
 
   pub operator-does : {op a b : ℕ} → Operands ts op a b → Does l n (operatorTermOf op a b) ts Value
   unfolding operatorTermOf

@@ -5,7 +5,7 @@ use mathlib.Core.List.{List, [], _∷_}
 use Prim.Native.Nat.{ℕ}
 use native.Mathlib.Omega.{arith}
 use Rattle.semantics.specs.declared.Term.{Term}
-use Rattle.semantics.specs.declared.Found.{Found}
+use Rattle.semantics.specs.declared.Folded.{Folded}
 use Rattle.semantics.specs.declared.State.{State}
 use Rattle.semantics.specs.declared.Result.{Result}
 use Rattle.semantics.specs.declared.Branch.{Branch}
@@ -28,8 +28,8 @@ pub branched : {ts : List Term} {g : ℕ} {r : Result} → Truth ts g → Result
 branched h k = record { guard = h; state = k .state; value = k .value }
 
 -- a value, if there is one
-record Some (ts : List Term) (v : Found) : Type 0 where
-  is : v .is ≡ true → Value ts (v .at)
+record Some (ts : List Term) (v : Folded) : Type 0 where
+  is : v .any ≡ true → Value ts (v .value)
 
 module _ {l n : ℕ} where
   states-does : {ts : List Term} {x : State} (bs : List Branch) → Fit n ts → Stated ts x → Every Branched ts bs → Does l n (mergeStatesOf x bs) ts Stated
@@ -40,11 +40,11 @@ module _ {l n : ℕ} where
       (λ us y p q r.
       does-each assertedStep branched-grown (λ ws z b q i j. merge-asserted-does q i (j .guard) (j .state .asserted)) us y bs q r (every-grown branched-grown p bs e))
 
-  value-step-does : {ts : List Term} (b : Branch) (v : Found) → Fit n ts → Branched ts b → Some ts v → Does l n (valueStepOf b v) ts Some
+  value-step-does : {ts : List Term} (b : Branch) (v : Folded) → Fit n ts → Branched ts b → Some ts v → Does l n (valueStepOf b v) ts Some
   unfolding valueStepOf
   value-step-does b v f h k =
       does-if (b .halted) (λ e. does-give _ f k) λ e.
-      does-if (v .is) (λ i. does-map _ (choice-does f (h .guard) (h .value) (k .is i)) (λ us a _ _ j. record { is = λ _. j })) λ i.
+      does-if (v .any) (λ i. does-map _ (choice-does f (h .guard) (h .value) (k .is i)) (λ us a _ _ j. record { is = λ _. j })) λ i.
       does-give _ f (record { is = λ _. h .value })
 
   values-does : {ts : List Term} (bs : List Branch) → Fit n ts → Every Branched ts bs → Does l n (mergeValuesOf bs) ts Some
@@ -56,10 +56,10 @@ module _ {l n : ℕ} where
   values-does {ts} (b ∷ bs) f e =
       does-then (values-does bs f (e .1)) (λ us v p q r. value-step-does b v q (branched-grown ts us b p (e .0)) r)
 
-  finish-does : {ts : List Term} {x : State} (v : Found) → Fit n ts → Stated ts x → Some ts v → Does l n (finishOf x v) ts Resulted
+  finish-does : {ts : List Term} {x : State} (v : Folded) → Fit n ts → Stated ts x → Some ts v → Does l n (finishOf x v) ts Resulted
   unfolding finishOf
   finish-does v f h k =
-      does-if (v .is) (λ e. does-read _ _ (does-if _ (λ i. does-give _ f (halted f h)) (λ i. does-give _ f (given h (k .is e))))) (λ e. does-give _ f (halted f h))
+      does-if (v .any) (λ e. does-read _ _ (does-if _ (λ i. does-give _ f (halted f h)) (λ i. does-give _ f (given h (k .is e))))) (λ e. does-give _ f (halted f h))
 
   pub merge-does : {ts : List Term} {x : State} (bs : List Branch) → Fit n ts → Stated ts x → Every Branched ts bs → Does l n (mergeOf x bs) ts Resulted
   unfolding mergeOf
