@@ -33,7 +33,7 @@ pub fn run(
 {
     let k = run_unformed(inputs, numbers, reading.len());
     if k != 0 {
-        terms::wipe(store, 0);
+        records::wipe(store, 0);
         return k;
     }
     let o = operations::run_plainly(

@@ -7,7 +7,7 @@ use Prim.Native.Nat.{ℕ, zero, suc}
 use lib.Dec.{eqb, ltb}
 use Rattle.notation.specs.Notation.{pick, with, if_then_else_, if_equals_then_else_, if_below_then_else_}
 use Rattle.semantics.specs.declared.Term.{Term}
-use Rattle.semantics.specs.declared.Found.{Found}
+use Rattle.semantics.specs.declared.Folded.{Folded}
 use Rattle.semantics.specs.declared.Record.{Record}
 use Rattle.semantics.specs.declared.State.{State}
 use Rattle.semantics.specs.declared.Leaf.{Leaf}
@@ -104,7 +104,7 @@ module _ (R : (A : Type 0) → Make A → Make A → Type 0) (kept : Congruence 
 
   kept-constant : (op w : ℕ) → Self (constantOf op w)
   unfolding noFree constantOf
-  kept-constant op w = kept-with _ _ _ (kept-if (kept-with _ _ _ (kept .giving _)) (kept-with _ _ _ (kept .making _ refl)) _)
+  kept-constant op w = kept-with _ _ _ (kept-if (kept-with _ _ _ (kept .giving _)) (kept .making _ refl) _)
 
   kept-operator-term : (op x y : ℕ) → Self (operatorTermOf op x y)
   unfolding noFree operatorTermOf
@@ -161,7 +161,7 @@ module _ (R : (A : Type 0) → Make A → Make A → Type 0) (kept : Congruence 
   kept-aim f x = kept .going-on (kept-walk termLimit _ f []) (λ ls. kept .going-on (kept-each orTargetOf orTargetOf kept-or-target _ ls) (λ g. kept-map _ (kept-assert x g)))
 
   -- ---- merging
-  kept-value : (b : Branch) (v : Found) → Self (valueStepOf b v)
+  kept-value : (b : Branch) (v : Folded) → Self (valueStepOf b v)
   unfolding valueStepOf
   kept-value b v = kept-if (kept .giving _) (kept-if (kept-map _ (kept-choice _ _ _)) (kept .giving _) _) _
 
@@ -170,7 +170,7 @@ module _ (R : (A : Type 0) → Make A → Make A → Type 0) (kept : Congruence 
   kept-values [] = kept .giving _
   kept-values (b ∷ bs) = kept .going-on (kept-values bs) (λ v. kept-value b v)
 
-  kept-finish : (x : State) (v : Found) → Self (finishOf x v)
+  kept-finish : (x : State) (v : Folded) → Self (finishOf x v)
   unfolding finishOf
   kept-finish x v = kept-if (kept .reading _ _ _ (λ b. kept-if (kept .giving _) (kept .giving _) b)) (kept .giving _) _
 
@@ -183,7 +183,7 @@ module _ (R : (A : Type 0) → Make A → Make A → Type 0) (kept : Congruence 
   -- ---- expressions that have no parts
   pub kept-datum : (op w : ℕ) (x : State) → Self (datumOf op w x)
   unfolding noFree datumOf
-  kept-datum op w x = kept-eq (kept-with _ _ _ (kept-map _ (kept .making _ refl))) (kept .giving _) _ _
+  kept-datum op w x = kept-eq (kept-map _ (kept .making _ refl)) (kept .giving _) _ _
 
   pub kept-procedure : (i e b : ℕ) (x : State) → Self (procedureOf i e b x)
   unfolding noFree procedureOf

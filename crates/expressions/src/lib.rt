@@ -3,7 +3,6 @@
 use semantics::Record;
 use semantics::Result;
 use semantics::State;
-use semantics::Term;
 use semantics::numbers;
 use states::Standing;
 use terms::Made;
@@ -14,7 +13,8 @@ ghost use Rattle.semantics.specs.Terms.{termsIn};
 ghost use Rattle.semantics.specs.Steps.{give, reads};
 ghost use Rattle.semantics.specs.States.{outOf, haltOf};
 ghost use Rattle.semantics.specs.Evaluation.{placeOf, datumOf, procedureOf, abortOf, errorOf, wordsOf, operationOf, testOf, operatorOf, secondOf};
-ghost use Rattle.terms.specs.Gives.{Gives, Within};
+ghost use Rattle.terms.specs.Gives.{Makes};
+ghost use Rattle.expressions.specs.Evaluates.{Evaluates};
 
 // What an expression comes to, with the depth used and a table that then has `count` terms; or a refusal, where it
 // is not 0.
@@ -41,6 +41,22 @@ pub fn stop(refusal: u8, count: u16, x: State) -> Out
     }
 }
 
+// An evaluation that ends in the state x with the value of a term that was made; or refused, where the making was.
+fn given(made: Made, x: State) -> Out
+    ensures { λ r. ⌜ r ≡ record { refusal = made .refusal; count = made .count; used = 0; result = outOf x (made .number) } ⌝ }
+{
+    Out {
+        refusal: made.refusal,
+        count: made.count,
+        used: 0,
+        result: Result {
+            state: x,
+            value: made.number,
+            halted: false,
+        },
+    }
+}
+
 // The larger of two depths.
 pub fn deeper(a: u16, b: u16) -> u16
     ensures { λ r. ⌜ r ≡ max a b ⌝ }
@@ -52,15 +68,15 @@ pub fn deeper(a: u16, b: u16) -> u16
 pub fn place(table: &[u8], count: u16, p: u16, env: u16) -> u16
     ensures { λ r. ⌜ r ≡ placeOf p env (termsIn (now (table .entry)) count) ⌝ }
 {
-    let mut e = env;
-    let mut k = p;
-    while k > 0 {
-        let x = terms::term(table, count, e);
-        e = x.b;
-        k -= 1;
+    let mut chain = env;
+    let mut left = p;
+    while left > 0 {
+        let passed = terms::term(table, count, chain);
+        chain = passed.b;
+        left -= 1;
     }
-    let y = terms::term(table, count, e);
-    y.a
+    let binding = terms::term(table, count, chain);
+    binding.a
 }
 
 // The second operand's value; 0 for an operator with one.
@@ -75,7 +91,7 @@ pub fn second(table: &[u8], count: u16, op: u8, q: u16, env: u16) -> u16
 
 // The value at place p.
 pub fn variable(table: &[u8], count: u16, p: u16, env: u16, x: State) -> Out
-    ensures { λ r. ⌜ Within 0 (reads (placeOf p env) λ v. give (outOf x v)) (now (table .entry)) count (r .refusal) (r .count) (r .used) (r .result) (now (table .entry)) ⌝ }
+    ensures { λ r. ⌜ Evaluates 0 (reads (placeOf p env) λ v. give (outOf x v)) (now (table .entry)) count r (now (table .entry)) ⌝ }
 {
     let v = place(table, count, p, env);
     Out {
@@ -92,20 +108,10 @@ pub fn variable(table: &[u8], count: u16, p: u16, env: u16, x: State) -> Out
 
 // A word datum; else a truth, whose op is the number of the term false or true.
 pub fn datum(table: &mut [u8], count: u16, x: Record, y: State) -> Out
-    ensures { λ r. ⌜ Within 0 (datumOf (x .op) (datumWord x) y) (now (table .entry)) count (r .refusal) (r .count) (r .used) (r .result) (now (table .exit)) ⌝ }
+    ensures { λ r. ⌜ Evaluates 0 (datumOf (x .op) (datumWord x) y) (now (table .entry)) count r (now (table .exit)) ⌝ }
 {
     if x.op == numbers::WORD_DATUM {
-        let m = terms::make(table, count, terms::word_term(records::datum_word(x)));
-        return Out {
-            refusal: m.refusal,
-            count: m.count,
-            used: 0,
-            result: Result {
-                state: y,
-                value: m.number,
-                halted: false,
-            },
-        };
+        return given(factory::make_word(table, count, records::datum_word(x)), y);
     }
     Out {
         refusal: 0,
@@ -121,107 +127,59 @@ pub fn datum(table: &mut [u8], count: u16, x: Record, y: State) -> Out
 
 // The closure of record i with the bindings env, of the rule accepted after `before` others.
 pub fn procedure(table: &mut [u8], count: u16, i: u16, env: u16, before: u16, x: State) -> Out
-    ensures { λ r. ⌜ Within 0 (procedureOf i env before x) (now (table .entry)) count (r .refusal) (r .count) (r .used) (r .result) (now (table .exit)) ⌝ }
+    ensures { λ r. ⌜ Evaluates 0 (procedureOf i env before x) (now (table .entry)) count r (now (table .exit)) ⌝ }
 {
-    let m = terms::make(
-        table,
-        count,
-        Term {
-            kind: numbers::PROCEDURE_TERM,
-            op: 0,
-            a: i,
-            b: env,
-            c: before,
-        },
-    );
-    Out {
-        refusal: m.refusal,
-        count: m.count,
-        used: 0,
-        result: Result {
-            state: x,
-            value: m.number,
-            halted: false,
-        },
-    }
+    given(factory::make_procedure(table, count, i, env, before), x)
 }
 
 // Abort assumes false and halts.
 pub fn abort(table: &mut [u8], count: u16, x: State) -> Out
-    ensures { λ r. ⌜ Within 0 (abortOf x) (now (table .entry)) count (r .refusal) (r .count) (r .used) (r .result) (now (table .exit)) ⌝ }
+    ensures { λ r. ⌜ Evaluates 0 (abortOf x) (now (table .entry)) count r (now (table .exit)) ⌝ }
 {
-    let s = Standing {
+    let before = Standing {
         refusal: 0,
         count: count,
         state: x,
     };
-    let y = s.assume(table, numbers::FALSE_NUMBER);
-    let z = y.state;
-    Out {
-        refusal: y.refusal,
-        count: y.count,
-        used: 0,
-        result: Result {
-            state: z,
-            value: 0,
-            halted: true,
-        },
-    }
+    let after = before.assume(table, numbers::FALSE_NUMBER);
+    let state = after.state;
+    stop(after.refusal, after.count, state)
 }
 
 // Error asserts false and halts.
 pub fn error(table: &mut [u8], count: u16, x: State) -> Out
-    ensures { λ r. ⌜ Within 0 (errorOf x) (now (table .entry)) count (r .refusal) (r .count) (r .used) (r .result) (now (table .exit)) ⌝ }
+    ensures { λ r. ⌜ Evaluates 0 (errorOf x) (now (table .entry)) count r (now (table .exit)) ⌝ }
 {
-    let s = Standing {
+    let before = Standing {
         refusal: 0,
         count: count,
         state: x,
     };
-    let y = s.assert(table, numbers::FALSE_NUMBER);
-    let z = y.state;
-    Out {
-        refusal: y.refusal,
-        count: y.count,
-        used: 0,
-        result: Result {
-            state: z,
-            value: 0,
-            halted: true,
-        },
-    }
+    let after = before.assert(table, numbers::FALSE_NUMBER);
+    let state = after.state;
+    stop(after.refusal, after.count, state)
 }
 
 // An operator on the values a and b; b is not looked at where there is one operand.
 pub fn operator(table: &mut [u8], count: u16, op: u8, a: u16, b: u16, x: State) -> Out
-    ensures { λ r. ⌜ Within 0 (operatorOf op a b x) (now (table .entry)) count (r .refusal) (r .count) (r .used) (r .result) (now (table .exit)) ⌝ }
+    ensures { λ r. ⌜ Evaluates 0 (operatorOf op a b x) (now (table .entry)) count r (now (table .exit)) ⌝ }
 {
     if op < numbers::NOT_CODE {
         return operation(table, count, op, a, b, x);
     }
-    let v = test(table, count, op, a);
-    Out {
-        refusal: v.refusal,
-        count: v.count,
-        used: 0,
-        result: Result {
-            state: x,
-            value: v.number,
-            halted: false,
-        },
-    }
+    given(test(table, count, op, a), x)
 }
 
 // Codes 13 to 15, which assert nothing.
 fn test(table: &mut [u8], count: u16, op: u8, a: u16) -> Made
-    ensures { λ r. ⌜ Gives (testOf op a) (now (table .entry)) count (r .refusal) (r .count) 0 (r .number) (now (table .exit)) ⌝ }
+    ensures { λ r. ⌜ Makes (testOf op a) (now (table .entry)) count r (now (table .exit)) ⌝ }
 {
     if op == numbers::NOT_CODE {
-        let t = factory::truth(table, count, a);
-        if t.refusal != 0 {
-            return t;
+        let truth = factory::truth(table, count, a);
+        if truth.refusal != 0 {
+            return truth;
         }
-        return factory::not_of(table, t.count, t.number);
+        return factory::not_of(table, truth.count, truth.number);
     }
     if op == numbers::IS_WORD_CODE {
         return factory::is_word(table, count, a);
@@ -231,51 +189,51 @@ fn test(table: &mut [u8], count: u16, op: u8, a: u16) -> Made
 
 // That the operands are words.
 fn words(table: &mut [u8], count: u16, op: u8, a: u16, b: u16) -> Made
-    ensures { λ r. ⌜ Gives (wordsOf op a b) (now (table .entry)) count (r .refusal) (r .count) 0 (r .number) (now (table .exit)) ⌝ }
+    ensures { λ r. ⌜ Makes (wordsOf op a b) (now (table .entry)) count r (now (table .exit)) ⌝ }
 {
-    let g = factory::is_word(table, count, a);
-    if g.refusal != 0 {
-        return g;
+    let first = factory::is_word(table, count, a);
+    if first.refusal != 0 {
+        return first;
     }
     if operators::operands(op) == 1 {
-        return g;
+        return first;
     }
-    let h = factory::is_word(table, g.count, b);
-    if h.refusal != 0 {
-        return h;
+    let second = factory::is_word(table, first.count, b);
+    if second.refusal != 0 {
+        return second;
     }
-    factory::and_of(table, h.count, g.number, h.number)
+    factory::and_of(table, second.count, first.number, second.number)
 }
 
 // Codes 1 to 12: assert that the operands are words, halt if S or T is then false, and only then make the term.
 fn operation(table: &mut [u8], count: u16, op: u8, a: u16, b: u16, x: State) -> Out
-    ensures { λ r. ⌜ Within 0 (operationOf op a b x) (now (table .entry)) count (r .refusal) (r .count) (r .used) (r .result) (now (table .exit)) ⌝ }
+    ensures { λ r. ⌜ Evaluates 0 (operationOf op a b x) (now (table .entry)) count r (now (table .exit)) ⌝ }
 {
-    let g = words(table, count, op, a, b);
-    if g.refusal != 0 {
-        return stop(g.refusal, g.count, x);
+    let on_words = words(table, count, op, a, b);
+    if on_words.refusal != 0 {
+        return stop(on_words.refusal, on_words.count, x);
     }
-    let s = Standing {
+    let before = Standing {
         refusal: 0,
-        count: g.count,
+        count: on_words.count,
         state: x,
     };
-    let y = s.assert(table, g.number);
-    let z = y.state;
-    if y.refusal != 0 {
-        return stop(y.refusal, y.count, z);
+    let after = before.assert(table, on_words.number);
+    let state = after.state;
+    if after.refusal != 0 {
+        return stop(after.refusal, after.count, state);
     }
-    if y.halts(table) {
-        return stop(0, y.count, z);
+    if after.halts(table) {
+        return stop(0, after.count, state);
     }
-    let v = factory::operator(table, y.count, op, a, b);
+    let made = factory::operator(table, after.count, op, a, b);
     Out {
-        refusal: v.refusal,
-        count: v.count,
+        refusal: made.refusal,
+        count: made.count,
         used: 0,
         result: Result {
-            state: z,
-            value: v.number,
+            state: state,
+            value: made.number,
             halted: false,
         },
     }

@@ -12,7 +12,8 @@ use Rattle.semantics.specs.Numbers.{leastTable}
 use Rattle.semantics.specs.Terms.{termsIn}
 use Rattle.semantics.specs.Opening.{badTableSize, inputTaken, opening}
 use Rattle.semantics.specs.Fits.{fitsOf}
-use Rattle.terms.specs.Gives.{Gives, wiped}
+use Rattle.records.specs.Wiped.{wiped}
+use Rattle.terms.specs.Gives.{Gives}
 use Rattle.opening.specs.Openings.{openAll}
 use Rattle.opening.proofs.Opened.{terms, environment}
 use Rattle.fitting.specs.Formed.{openingFits}

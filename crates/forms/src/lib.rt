@@ -54,18 +54,12 @@ pub const WRONG_LENGTH: u8 = 255;
 // A number that is no term's.
 const NO_TERM: u16 = 65535;
 
-fn pair(low: u8, high: u8) -> u16
-    ensures { λ r. ⌜ r ≡ low + 256 * high ⌝ }
-{
-    (low as u16) + 256 * (high as u16)
-}
-
 // The number of the two bytes at a position.
 fn two(s: &[u8], at: u32) -> u16
     ensures { λ r. ⌜ r ≡ pairAt (now (s .entry)) at ⌝ }
 {
     let i = at as usize;
-    pair(records::byte(s, i), records::byte(s, i + 1))
+    records::pair(records::byte(s, i), records::byte(s, i + 1))
 }
 
 // The word of the bytes at a position.

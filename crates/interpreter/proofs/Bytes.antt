@@ -3,13 +3,10 @@ use mathlib.Core.Path.{_≡_, refl, sym, ap, _∙_}
 use mathlib.Core.List.{List, _++_, append-nil}
 use Prim.Native.Nat.{ℕ, _+_, _-_, _*_, _/_, _%_, _<_, _≤_}
 use native.Mathlib.Omega.{arith}
-use mathlib.Core.Bool.{Bool, true, false}
-use lib.Dec.{eqb}
-use borrow.Author.Tests.{eqb-true, eqb-false}
-use lib.ListN.{length, getD, set, replicate, length-replicate, getD-replicate, take, drop, length-drop, length-append, drop-of-length-le, List·getD-append}
-use lib.Seq.{getD-take, getD-append-add, length-take-le, take-all, getD-set-same, getD-set-other, ext-getD}
+use lib.ListN.{length, getD, take, drop, length-drop, length-append, drop-of-length-le, List·getD-append}
+use lib.Seq.{getD-take, getD-append-add, length-take-le, take-all}
 use Rattle.semantics.specs.declared.Record.{Record}
-use Rattle.semantics.specs.Records.{recordAt}
+use Rattle.semantics.specs.Records.{recordAt, recordBytes}
 use Rattle.interpreter.specs.Promise.{bytesOf, put, StoreKept}
 
 halves : (x : ℕ) → x % 256 + 256 * (x / 256) ≡ x
@@ -76,21 +73,10 @@ module _ (s : List ℕ) (n : ℕ) (x : Record) where
   tail-length : length (drop (8 * n) s) ≤ length s - 8 * n
   tail-length = simp length-drop (omega arith)
 
-  pub put-back : (y : List ℕ) → y ≡ bytesOf x ++ drop 8 (take (length s - 8 * n) (drop (8 * n) s))
+  pub put-back : (y : List ℕ) → y ≡ recordBytes (x .kind) (x .op) (x .p) (x .q) (x .r) ++ drop 8 (take (length s - 8 * n) (drop (8 * n) s))
       → take (8 * n) s ++ (y ++ drop (length s - 8 * n) (drop (8 * n) s)) ≡ put s n x
-  unfolding put
+  unfolding put bytesOf
   put-back y e =
       let lent : take (length s - 8 * n) (drop (8 * n) s) ≡ drop (8 * n) s = take-all (length s - 8 * n) (drop (8 * n) s) tail-length in
       let nothing : y ++ drop (length s - 8 * n) (drop (8 * n) s) ≡ y = rw (drop-of-length-le (drop (8 * n) s) tail-length) (append-nil y) in
       rw (nothing, e, lent)
-
--- zeros up to a place, and all over
-pub zero-more : (s : List ℕ) (k : ℕ) → k < length s → ((j : ℕ) → j < k → getD s j 0 ≡ 0) → (j : ℕ) → j < k + 1 → getD (set s k 0) j 0 ≡ 0
-zero-more s k h z j l = go (eqb j k) refl
-  where
-    go : (t : Bool) → eqb j k ≡ t → getD (set s k 0) j 0 ≡ 0
-    go true q = let e : j ≡ k = eqb-true _ _ q in rw e (getD-set-same s k 0 0 h)
-    go false q = let f : (j ≡ k → ⊥) = eqb-false _ _ q in getD-set-other s k j 0 0 f ∙ z j (omega (arith, f))
-
-pub zero-all : (s : List ℕ) (n : ℕ) → length s ≡ n → ((j : ℕ) → j < n → getD s j 0 ≡ 0) → s ≡ replicate n 0
-zero-all s n e z = ext-getD 0 s (replicate n 0) (e ∙ sym (length-replicate n 0)) (λ i h. z i (rw e at h) ∙ sym (getD-replicate n i 0 0 (rw e at h)))

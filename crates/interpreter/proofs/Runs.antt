@@ -16,6 +16,8 @@ use Rattle.semantics.specs.Numbers.{datumRecord, variableRecord, procedureRecor
 use Rattle.semantics.specs.Records.{recordAt, datumWord}
 use Rattle.semantics.specs.Run.{Value, procedure, binding, none, gives, aborts, errs, spends, placed, isFalse, isAWord, isAProcedure, wordIn, wordsRun, operatorRun, datumValue}
 use Rattle.semantics.specs.PlainRun.{Stored, ended, full, Storing, onward, taking, callStored, expressionStored, storedOf, startedOf, valueGiven, endedOutcome, storedOutcome, placesIn}
+use Rattle.records.specs.Wiped.{wiped}
+use Rattle.records.proofs.Wiped.{wiped-all}
 use Rattle.interpreter.specs.declared.Held.{Held}
 use Rattle.interpreter.specs.declared.Ran.{Ran}
 use Rattle.interpreter.specs.Store.{valueOf, chainIn, linkOf, valueIn, shown, nothing, storedBy, valueEnd, abortEnd, errorEnd, spentEnd, fullEnd}
@@ -317,5 +319,6 @@ module _ (s rule : List ℕ) (allowance : ℕ) (e : Value) {n : ℕ} (w : n ≡ 
 pub answer : (s : List ℕ) (o : Ran) {m : Stored} → storedBy (valueIn s) o ≡ m → {r : Outcome} → r ≡ storedOutcome (storedBy shown o) → r ≡ storedOutcome m
 answer s o e q = q ∙ sym (outcome-shown s o) ∙ ap storedOutcome e
 
-pub wiped : {y : List ℕ} {n m : ℕ} → y ≡ replicate n 0 → n ≡ m → y ≡ replicate m 0
-wiped e q = rw q at e
+-- the store is zero again
+pub zeroed : (s : List ℕ) {y : List ℕ} → y ≡ wiped s 0 → {n : ℕ} → length s ≡ n → y ≡ replicate n 0
+zeroed s e q = e ∙ rw q at (wiped-all s)

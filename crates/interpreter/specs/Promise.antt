@@ -1,12 +1,12 @@
 -- What the functions over the store promise. Assumes nothing.
-use Prim.Native.Nat.{ℕ, _+_, _*_, _/_, _%_, _<_, _≤_}
+use Prim.Native.Nat.{ℕ, _*_, _<_, _≤_}
 use mathlib.Core.Path.{_≡_}
-use mathlib.Core.List.{List, [], _∷_, _++_}
+use mathlib.Core.List.{List, _++_}
 use lib.ListN.{length, getD, take, drop}
 use Rattle.notation.specs.Notation.{if_equals_then_else_}
 use Rattle.semantics.specs.declared.Record.{Record}
 use Rattle.semantics.specs.Numbers.{procedureTerm}
-use Rattle.semantics.specs.Records.{recordAt}
+use Rattle.semantics.specs.Records.{recordAt, recordBytes}
 use Rattle.semantics.specs.Run.{binding, placed}
 use Rattle.semantics.specs.PlainRun.{Stored, onward, taking, callStored, storedOf, placesIn}
 use Rattle.interpreter.specs.declared.Held.{Held}
@@ -15,7 +15,7 @@ use Rattle.interpreter.specs.Store.{chainIn, lowerOf, linkOf, valueIn, s
 
 -- the bytes of a record, "fields little-endian"
 unfoldable pub bytesOf : Record → List ℕ
-bytesOf x = x .kind ∷ x .op ∷ x .p % 256 ∷ x .p / 256 ∷ x .q % 256 ∷ x .q / 256 ∷ x .r % 256 ∷ x .r / 256 ∷ []
+bytesOf x = recordBytes (x .kind) (x .op) (x .p) (x .q) (x .r)
 
 -- the record x at place n
 unfoldable pub put : List ℕ → ℕ → Record → List ℕ

@@ -31,15 +31,14 @@ use semantics::numbers::WORD_DATUM;
 use semantics::numbers::WORD_TERM;
 use words::Word;
 ghost use mathlib.Core.Path.{_≡_};
-ghost use mathlib.Core.List.{_++_};
 ghost use Prim.Native.Nat.{_+_, _*_, _≤_};
-ghost use lib.ListN.{length, drop, replicate};
+ghost use lib.ListN.{length, replicate};
 ghost use Rattle.semantics.specs.Numbers.{procedureTerm, inputCount};
 ghost use Rattle.semantics.specs.Records.{datumWord};
 ghost use Rattle.semantics.specs.Run.{truth as «truth-of», word as «word-of», isFalse, isAWord, isAProcedure, wordIn, wordsRun, operationValue, operatorRun, datumValue, inputValue, inputsBound};
 ghost use Rattle.semantics.specs.PlainRun.{ended, startedOf, storedOutcome, valueGiven, placesIn};
 ghost use Rattle.interpreter.specs.Store.{chainIn, lowerOf, linkOf, valueIn, shown, nothing, valueEnd, storedBy};
-ghost use Rattle.interpreter.specs.Promise.{bytesOf, put, bound, heldAt, nextAt, Found, runIn, underIn, letIn, callIn, Runs};
+ghost use Rattle.interpreter.specs.Promise.{put, bound, heldAt, nextAt, Found, runIn, underIn, letIn, callIn, Runs};
 
 // A value as a place holds it: its sort is a truth's, a word's or a procedure's (0: no value). A truth lies in the
 // first field and a word in both; a procedure's record lies in the first, and the chain of its bindings in the second.
@@ -79,7 +78,7 @@ pub fn run_in_store(
 {
     let o = start(store, rule, inputs, numbers, allowance);
     let r = outcome(o);
-    wipe(store);
+    records::wipe(store, 0);
     r
 }
 
@@ -430,30 +429,7 @@ fn put_binding(store: &mut [u8], n: u16, v: Held, next: u16)
     ensures { λ _. ⌜ now (store .exit) ≡ put (now (store .entry)) n (bound v next) ⌝ }
 {
     let at = 8 * (n as usize);
-    write(
-        &mut store[at..],
-        Record {
-            kind: v.sort,
-            op: 0,
-            p: v.first,
-            q: v.second,
-            r: next,
-        },
-    );
-}
-
-fn write(tail: &mut [u8], x: Record)
-    requires { ⌜ 8 ≤ length (now tail) ⌝ }
-    ensures { λ _. ⌜ now (tail .exit) ≡ bytesOf x ++ drop 8 (now (tail .entry)) ⌝ }
-{
-    tail[0] = x.kind;
-    tail[1] = x.op;
-    tail[2] = (x.p % 256) as u8;
-    tail[3] = (x.p / 256) as u8;
-    tail[4] = (x.q % 256) as u8;
-    tail[5] = (x.q / 256) as u8;
-    tail[6] = (x.r % 256) as u8;
-    tail[7] = (x.r / 256) as u8;
+    records::write(&mut store[at..], v.sort, 0, v.first, v.second, next);
 }
 
 // How many places a store of so many bytes has.
@@ -465,13 +441,5 @@ fn places(bytes: usize) -> u16
         n as u16
     } else {
         PLACE_LIMIT
-    }
-}
-
-fn wipe(store: &mut [u8])
-    ensures { λ _. ⌜ now (store .exit) ≡ replicate (length (now (store .entry))) 0 ⌝ }
-{
-    for k in 0..store.len() {
-        store[k] = 0;
     }
 }

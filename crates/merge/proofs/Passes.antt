@@ -9,11 +9,11 @@ use lib.ListN.{length, getD, take, replicate, length-reverse}
 use borrow.Author.Tests.{eq-eqb, ne-eqb}
 use Rattle.notation.specs.Notation.{pick, if_equals_then_else_}
 use Rattle.semantics.specs.declared.Branch.{Branch}
-use Rattle.semantics.specs.declared.Found.{Found}
+use Rattle.semantics.specs.declared.Folded.{Folded}
 use Rattle.semantics.specs.declared.Result.{Result}
 use Rattle.semantics.specs.declared.State.{State}
 use Rattle.semantics.specs.Steps.{Make, _>>=_, _▹_, give, each}
-use Rattle.semantics.specs.Merge.{assumedStep, assertedStep, mergeStatesOf, valueStepOf, mergeValuesOf, finishOf, mergeOf}
+use Rattle.semantics.specs.Merge.{assumedStep, assertedStep, mergeStatesOf, noneGiven, valueStepOf, mergeValuesOf, finishOf, mergeOf}
 use Rattle.terms.specs.Gives.{Gives, from}
 use Rattle.terms.proofs.Gives.{then-stop, then-on}
 use Rattle.merge.specs.Branches.{noBranch}
@@ -40,15 +40,15 @@ module _ (p : ℕ) (h : eqb p 2 ≡ false) where
 module _ (x : State) where
   -- no value yet
   abbrev before : Carry
-  before = (x, record { is = false; at = 0 })
+  before = (x, noneGiven)
 
-  value-step : (v : Found) (b : Branch) → each (passStep 2) (x, v) (b ∷ []) ≡ valueStepOf b v ▹ λ f. (x, f)
+  value-step : (v : Folded) (b : Branch) → each (passStep 2) (x, v) (b ∷ []) ≡ valueStepOf b v ▹ λ f. (x, f)
   unfolding passStep if_equals_then_else_
   value-step v b = each-one (passStep 2) (x, v) b
 
   each-value : (bs : List Branch) → each (passStep 2) before (reverse bs) ≡ mergeValuesOf bs ▹ λ v. (x, v)
   unfolding mergeValuesOf each _▹_
-  each-value [] = sym (give-then (record { is = false; at = 0 }) (λ v. give (x, v)))
+  each-value [] = sym (give-then noneGiven (λ v. give (x, v)))
   each-value (b ∷ bs) =
       ap (each (passStep 2) before) (reverse-cons b bs) ∙ sym (each-append (passStep 2) before (reverse bs) (b ∷ []))
       ∙ ap (λ (m : Make Carry). m >>= λ y. each (passStep 2) y (b ∷ [])) (each-value bs)
@@ -91,7 +91,7 @@ module _ (x : State) (bs : List Branch) where
       then-then (λ y. mergeValuesOf bs ▹ λ v. (y, v)) (λ m. finishOf (m .0) (m .1)) (mergeStatesOf x bs)
       ∙ then-as (mergeStatesOf x bs) (λ y. map-then (mergeValuesOf bs) (λ v. (y, v)) (λ m. finishOf (m .0) (m .1)))
 
-  module _ {s y : List ℕ} {n r c : ℕ} {t : State} {v : Found} (g : Gives (mergedOf x bs) s n r c 0 (t, v) y) where
+  module _ {s y : List ℕ} {n r c : ℕ} {t : State} {v : Folded} (g : Gives (mergedOf x bs) s n r c 0 (t, v) y) where
     pub merged-stop : (r ≡ 0 → ⊥) → {a : Result} → Gives (mergeOf x bs) s n r c 0 a y
     merged-stop h {a} = subst (λ (m : Make Result). Gives m s n r c 0 a y) merged-finish (then-stop (λ m. finishOf (m .0) (m .1)) g h)
 

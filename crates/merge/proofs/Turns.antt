@@ -38,14 +38,14 @@ pub record Turn (pass : ℕ) (bs : List Branch) (m : Carried) (xs : List ℕ) : 
 
 module _ (pass : ℕ) (bs : List Branch) (m : Carried) (xs : List ℕ) where
   abbrev pub start : Is K.the-row m (cv m ∷ []) → Turn pass bs m xs
-  start is = record { i = 0; a = m; tbl = xs; within = omega arith; same = refl; came = no-turn (passStep pass) (m .refusal) (m .state, m .found) xs (m .count); a-is = is }
+  start is = record { i = 0; a = m; tbl = xs; within = omega arith; same = refl; came = no-turn (passStep pass) (m .refusal) (m .state, m .folded) xs (m .count); a-is = is }
 
   -- the turn at j, the place of turn i
   pub turns-next : (i : ℕ) → i < length bs → (j : ℕ) → j ≡ placeOf pass i (length bs) → (a : Carried) (ys : List ℕ) → Carries m xs (turns pass bs i) a ys
       → (r : Carried) (zs : List ℕ) → Carries a ys (λ x. passStep pass x (getD bs j noBranch)) r zs → Carries m xs (turns pass bs (i + 1)) r zs
   turns-next i l j ej a ys g r zs k =
       subst (λ (bs : List Branch). Carries m xs (λ x. each (passStep pass) x bs) r zs) (sym grows)
-      (one-turn (passStep pass) (m .refusal) (m .state, m .found) xs (m .count) (take i (met pass bs)) (getD (met pass bs) i noBranch) g (subst (λ (b : Branch). Carries a ys (λ x. passStep pass x b) r zs) (ap (λ (k : ℕ). getD bs k noBranch) ej ∙ met-at pass bs i l) k))
+      (one-turn (passStep pass) (m .refusal) (m .state, m .folded) xs (m .count) (take i (met pass bs)) (getD (met pass bs) i noBranch) g (subst (λ (b : Branch). Carries a ys (λ x. passStep pass x b) r zs) (ap (λ (k : ℕ). getD bs k noBranch) ej ∙ met-at pass bs i l) k))
     where
       grows : take (i + 1) (met pass bs) ≡ take i (met pass bs) ++ (getD (met pass bs) i noBranch ∷ [])
       grows = ap (λ (k : ℕ). take k (met pass bs)) (add-one i) ∙ take-suc (met pass bs) i noBranch (rw (met-length pass bs) l)

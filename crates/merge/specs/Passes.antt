@@ -3,16 +3,18 @@ use Prim.Native.Nat.{ℕ, _-_}
 use mathlib.Core.List.{List, reverse}
 use Rattle.notation.specs.Notation.{if_equals_then_else_}
 use Rattle.semantics.specs.declared.Branch.{Branch}
-use Rattle.semantics.specs.declared.Found.{Found}
+use Rattle.semantics.specs.declared.Folded.{Folded}
+use Rattle.semantics.specs.declared.Result.{Result}
 use Rattle.semantics.specs.declared.State.{State}
 use Rattle.semantics.specs.Steps.{Make, _>>=_, _▹_, refuse, each}
 use Rattle.semantics.specs.Merge.{assumedStep, assertedStep, mergeStatesOf, valueStepOf, mergeValuesOf}
 use Rattle.terms.specs.Gives.{Gives}
 use Rattle.merge.specs.declared.Carried.{Carried}
+use Rattle.merge.specs.declared.Merged.{Merged}
 
 -- the state, and the value of the branches met, if one gave a value
 abbrev pub Carry : Type 0
-Carry = State × Found
+Carry = State × Folded
 
 -- f of a, after a step that was refused by r, or by nothing where r is 0: the refusal is kept
 unfoldable pub onward : {A B : Type 0} → ℕ → A → (A → Make B) → Make B
@@ -53,4 +55,8 @@ mergedOf x bs = mergeStatesOf x bs >>= λ y. mergeValuesOf bs ▹ λ v. (y, v)
 
 -- From m, with the table s, the step f comes to r and the table y.
 abbrev pub Carries : Carried → List ℕ → (Carry → Make Carry) → Carried → List ℕ → Type 0
-Carries m s f r y = Gives (onward (m .refusal) (m .state, m .found) f) s (m .count) (r .refusal) (r .count) 0 (r .state, r .found) y
+Carries m s f r y = Gives (onward (m .refusal) (m .state, m .folded) f) s (m .count) (r .refusal) (r .count) 0 (r .state, r .folded) y
+
+-- From the table s with n terms the merge m comes to r, and leaves the table y.
+abbrev pub Merges : Make Result → List ℕ → ℕ → Merged → List ℕ → Type 0
+Merges m s n r y = Gives m s n (r .refusal) (r .count) 0 (r .result) y

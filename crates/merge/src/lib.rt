@@ -1,7 +1,7 @@
 // Merging guarded results over a state: a pass for every S, one for every T, and one for the values, from the right by
 // choice. A pass walks a lent list of branches and carries on, by value, what it has. No public function has a `requires`.
 use semantics::Branch;
-use semantics::Found;
+use semantics::Folded;
 use semantics::Result;
 use semantics::State;
 use semantics::numbers;
@@ -12,8 +12,9 @@ ghost use lib.ListN.{take, replicate};
 ghost use Rattle.semantics.specs.Numbers.{leafLimit};
 ghost use Rattle.semantics.specs.Merge.{branchOf, valueStepOf, finishOf, mergeOf};
 ghost use Rattle.terms.specs.Gives.{Gives, from};
+ghost use Rattle.states.specs.Stands.{Stands};
 ghost use Rattle.merge.specs.Branches.{noBranch};
-ghost use Rattle.merge.specs.Passes.{stateStep, passStep, placeOf, passOf, mergedOf, Carries};
+ghost use Rattle.merge.specs.Passes.{stateStep, passStep, placeOf, passOf, mergedOf, Carries, Merges};
 
 // What stands in a list past its branches.
 pub const NO_BRANCH: Branch = Branch {
@@ -39,14 +40,14 @@ pub struct Carried {
     pub refusal: u8,
     pub count: u16,
     pub state: State,
-    pub found: Found,
+    pub folded: Folded,
 }
 
 // A value, if a branch gave one, with a table that then has `count` terms; or a refusal, where it is not 0.
 pub struct Valued {
     pub refusal: u8,
     pub count: u16,
-    pub found: Found,
+    pub folded: Folded,
 }
 
 // A result, with a table that then has `count` terms; or a refusal, where it is not 0.
@@ -64,33 +65,33 @@ pub fn merge(
     branches: [Branch; numbers::LEAF_LIMIT],
     n: usize,
 ) -> Merged
-    ensures { λ r. ⌜ Gives (mergeOf x (from noBranch branches 0 n)) (now (table .entry)) count (r .refusal) (r .count) 0 (r .result) (now (table .exit)) ⌝ }
+    ensures { λ r. ⌜ Merges (mergeOf x (from noBranch branches 0 n)) (now (table .entry)) count r (now (table .exit)) ⌝ }
 {
-    let m = merge_passes(table, count, x, branches, n);
-    let y = m.state;
-    if m.refusal != 0 {
+    let carried = merge_passes(table, count, x, branches, n);
+    let state = carried.state;
+    if carried.refusal != 0 {
         return Merged {
-            refusal: m.refusal,
-            count: m.count,
+            refusal: carried.refusal,
+            count: carried.count,
             result: Result {
-                state: y,
+                state: state,
                 value: 0,
                 halted: true,
             },
         };
     }
-    let v = m.found;
-    finish(table, m.count, y, v)
+    let folded = carried.folded;
+    finish(table, carried.count, state, folded)
 }
 
 // A result under its guard.
 pub fn branch(guard: u16, x: Result) -> Branch
     ensures { λ r. ⌜ r ≡ branchOf guard x ⌝ }
 {
-    let s = x.state;
+    let state = x.state;
     Branch {
         guard: guard,
-        state: s,
+        state: state,
         value: x.value,
         halted: x.halted,
     }
@@ -101,28 +102,28 @@ impl Carried {
     pub fn merging(self, pass: u8, b: Branch, table: &mut [u8]) -> Carried
         ensures { λ r. ⌜ Carries self (now (table .entry)) (λ x. passStep pass x b) r (now (table .exit)) ⌝ }
     {
-        let x = self.state;
-        let v = self.found;
+        let state = self.state;
+        let folded = self.folded;
         if self.refusal != 0 {
             return self;
         }
         if pass == VALUE_PASS {
-            let w = merge_value(table, self.count, b, v);
-            let f = w.found;
+            let valued = merge_value(table, self.count, b, folded);
+            let more = valued.folded;
             return Carried {
-                refusal: w.refusal,
-                count: w.count,
-                state: x,
-                found: f,
+                refusal: valued.refusal,
+                count: valued.count,
+                state: state,
+                folded: more,
             };
         }
-        let y = merge_state(table, self.count, x, pass, b);
-        let s = y.state;
+        let standing = merge_state(table, self.count, state, pass, b);
+        let merged = standing.state;
         Carried {
-            refusal: y.refusal,
-            count: y.count,
-            state: s,
-            found: v,
+            refusal: standing.refusal,
+            count: standing.count,
+            state: merged,
+            folded: folded,
         }
     }
 }
@@ -142,14 +143,14 @@ fn place(pass: u8, i: usize, n: usize) -> usize
 pub fn merge_lent(results: &[Branch], pass: u8, m: Carried, table: &mut [u8]) -> Carried
     ensures { λ r. ⌜ Carries m (now (table .entry)) (passOf pass (now (results .entry))) r (now (table .exit)) ⌝ }
 {
-    let mut a = m;
+    let mut carried = m;
     let mut i: usize = 0;
     while i < results.len() {
-        let j = place(pass, i, results.len());
-        a = a.merging(pass, results[j], table);
+        let at = place(pass, i, results.len());
+        carried = carried.merging(pass, results[at], table);
         i = i + 1;
     }
-    a
+    carried
 }
 
 // One pass over the first n branches of an array, which it lends.
@@ -170,13 +171,13 @@ fn merge_first(
 fn merge_blank(n: usize, pass: u8, m: Carried, table: &mut [u8]) -> Carried
     ensures { λ r. ⌜ Carries m (now (table .entry)) (passOf pass (replicate n noBranch)) r (now (table .exit)) ⌝ }
 {
-    let mut a = m;
+    let mut carried = m;
     let mut i: usize = 0;
     while i < n {
-        a = a.merging(pass, NO_BRANCH, table);
+        carried = carried.merging(pass, NO_BRANCH, table);
         i += 1;
     }
-    a
+    carried
 }
 
 // One pass over the first n branches, of which those past the array are blank.
@@ -208,83 +209,86 @@ fn merge_passes(
     branches: [Branch; numbers::LEAF_LIMIT],
     n: usize,
 ) -> Carried
-    ensures { λ r. ⌜ Gives (mergedOf x (from noBranch branches 0 n)) (now (table .entry)) count (r .refusal) (r .count) 0 (r .state, r .found) (now (table .exit)) ⌝ }
+    ensures { λ r. ⌜ Gives (mergedOf x (from noBranch branches 0 n)) (now (table .entry)) count (r .refusal) (r .count) 0 (r .state, r .folded) (now (table .exit)) ⌝ }
 {
     let start = Carried {
         refusal: 0,
         count: count,
         state: x,
-        found: Found { is: false, at: 0 },
+        folded: Folded {
+            any: false,
+            value: 0,
+        },
     };
-    let s = merge_pass(branches, n, ASSUMED_PASS, start, table);
-    let t = merge_pass(branches, n, ASSERTED_PASS, s, table);
-    merge_pass(branches, n, VALUE_PASS, t, table)
+    let assumed = merge_pass(branches, n, ASSUMED_PASS, start, table);
+    let asserted = merge_pass(branches, n, ASSERTED_PASS, assumed, table);
+    merge_pass(branches, n, VALUE_PASS, asserted, table)
 }
 
 // A branch's S, or its T.
 fn merge_state(table: &mut [u8], count: u16, x: State, pass: u8, b: Branch) -> Standing
-    ensures { λ r. ⌜ Gives (stateStep pass x b) (now (table .entry)) count (r .refusal) (r .count) 0 (r .state) (now (table .exit)) ⌝ }
+    ensures { λ r. ⌜ Stands (stateStep pass x b) (now (table .entry)) count r (now (table .exit)) ⌝ }
 {
-    let y = Standing {
+    let standing = Standing {
         refusal: 0,
         count: count,
         state: x,
     };
-    let s = b.state;
+    let branch = b.state;
     if pass == ASSUMED_PASS {
-        return y.merge_assumed(table, b.guard, s.assumed);
+        return standing.merge_assumed(table, b.guard, branch.assumed);
     }
-    y.merge_asserted(table, b.guard, s.asserted)
+    standing.merge_asserted(table, b.guard, branch.asserted)
 }
 
 // A branch before the later ones' value: a choice under its guard. A halted branch gives none.
-fn merge_value(table: &mut [u8], count: u16, b: Branch, later: Found) -> Valued
-    ensures { λ r. ⌜ Gives (valueStepOf b later) (now (table .entry)) count (r .refusal) (r .count) 0 (r .found) (now (table .exit)) ⌝ }
+fn merge_value(table: &mut [u8], count: u16, b: Branch, later: Folded) -> Valued
+    ensures { λ r. ⌜ Gives (valueStepOf b later) (now (table .entry)) count (r .refusal) (r .count) 0 (r .folded) (now (table .exit)) ⌝ }
 {
     if b.halted {
         return Valued {
             refusal: 0,
             count: count,
-            found: later,
+            folded: later,
         };
     }
-    if later.is {
-        let v = factory::choice(table, count, b.guard, b.value, later.at);
+    if later.any {
+        let chosen = factory::choice(table, count, b.guard, b.value, later.value);
         return Valued {
-            refusal: v.refusal,
-            count: v.count,
-            found: Found {
-                is: true,
-                at: v.number,
+            refusal: chosen.refusal,
+            count: chosen.count,
+            folded: Folded {
+                any: true,
+                value: chosen.number,
             },
         };
     }
     Valued {
         refusal: 0,
         count: count,
-        found: Found {
-            is: true,
-            at: b.value,
+        folded: Folded {
+            any: true,
+            value: b.value,
         },
     }
 }
 
 // All halted, or none ran: halt. Else halt only if S or T is false.
-fn finish(table: &[u8], count: u16, x: State, v: Found) -> Merged
-    ensures { λ r. ⌜ Gives (finishOf x v) (now (table .entry)) count (r .refusal) (r .count) 0 (r .result) (now (table .entry)) ⌝ }
+fn finish(table: &[u8], count: u16, x: State, v: Folded) -> Merged
+    ensures { λ r. ⌜ Merges (finishOf x v) (now (table .entry)) count r (now (table .entry)) ⌝ }
 {
     let halt = Result {
         state: x,
         value: 0,
         halted: true,
     };
-    let s = Standing {
+    let standing = Standing {
         refusal: 0,
         count: count,
         state: x,
     };
-    if v.is {
-        if s.halts(table) {
+    if v.any {
+        if standing.halts(table) {
             return Merged {
                 refusal: 0,
                 count: count,
@@ -296,7 +300,7 @@ fn finish(table: &[u8], count: u16, x: State, v: Found) -> Merged
             count: count,
             result: Result {
                 state: x,
-                value: v.at,
+                value: v.value,
                 halted: false,
             },
         };

@@ -6,31 +6,51 @@ use Prim.Native.Nat.{ℕ, zero, suc, _+_, _-_, _<_, _≤_}
 use native.Mathlib.Omega.{arith}
 use lib.ListN.{length, getD, List·getD-eq-default}
 use lib.Dec.{eqb}
-use borrow.Author.Tests.{eqb-true, eqb-false}
-use Rattle.notation.specs.Notation.{every}
+use borrow.Author.Tests.{eqb-true, eqb-false, ne-eqb}
+use Rattle.notation.specs.Notation.{if_equals_then_else_, every}
 use Rattle.notation.proofs.Every.{every-all, every-miss}
-use Rattle.semantics.specs.declared.Term.{Term}
 use Rattle.semantics.specs.declared.Input.{Input}
-use Rattle.semantics.specs.Numbers.{bindingTerm, noBinding}
-use Rattle.semantics.specs.Terms.{term}
-use Rattle.semantics.specs.Steps.{makeOf}
+use Rattle.semantics.specs.Numbers.{constantTruth, constantWord, freeTruth, freeTruthTerm, freeWordTerm, noBinding}
+use Rattle.semantics.specs.Terms.{truthNumber}
+use Rattle.semantics.specs.Steps.{give, makeOf}
+use Rattle.semantics.specs.Factory.{makeTruthOf, makeWordOf, makeFreeOf, makeBindingOf}
 use Rattle.semantics.specs.Opening.{inputTaken, inputTerm}
 use Rattle.terms.specs.Gives.{from, Gives}
 use Rattle.terms.proofs.Arrays.{from-all}
-use Rattle.terms.proofs.Gives.{gives-value, then-stop, then-on}
+use Rattle.terms.proofs.Gives.{then-stop, then-on}
 use Rattle.opening.specs.Openings.{noInput, openFrom}
 
 pub no-input : (xs : List Input) (i : ℕ) → length xs ≤ i → noInput ≡ getD xs i noInput
 no-input xs i h = sym (List·getD-eq-default xs noInput h)
 
-module _ (xs : List Input) (i : ℕ) {s : List ℕ} {c : ℕ} where
-  pub open-end : 16 ≤ i → Gives (openFrom i (from noInput xs i (16 - i))) s c 0 c 0 noBinding s
-  unfolding openFrom from
-  open-end h = let e : 16 - i ≡ zero = omega arith in rw (e, from, openFrom) (gives-value s c noBinding refl)
+-- ---- the term of an input, by its kind
+module _ (i : ℕ) (x : Input) {s y : List ℕ} {n r c v : ℕ} where
+  pub input-truth : x .kind ≡ constantTruth → {a : ℕ} → a ≡ truthNumber (x .value) → Gives (makeTruthOf a) s n r c 0 v y → Gives (makeOf (inputTerm i x)) s n r c 0 v y
+  unfolding inputTerm if_equals_then_else_
+  input-truth h e g = rw (h, ← e) g
 
-  module _ (h : i < 16) {x : Input} (ex : x ≡ getD xs i noInput) {t : Term} (et : t ≡ inputTerm i x) {r e v : ℕ} {y : List ℕ} (g : Gives (makeOf t) s c r e 0 v y) where
+  pub input-word : x .kind ≡ constantWord → Gives (makeWordOf (x .value)) s n r c 0 v y → Gives (makeOf (inputTerm i x)) s n r c 0 v y
+  unfolding inputTerm if_equals_then_else_
+  input-word h g = rw h g
+
+  pub input-free-truth : x .kind ≡ freeTruth → Gives (makeFreeOf freeTruthTerm i) s n r c 0 v y → Gives (makeOf (inputTerm i x)) s n r c 0 v y
+  unfolding inputTerm if_equals_then_else_
+  input-free-truth h g = rw h g
+
+  pub input-free-word : (x .kind ≡ constantTruth → ⊥) → (x .kind ≡ constantWord → ⊥) → (x .kind ≡ freeTruth → ⊥) → Gives (makeFreeOf freeWordTerm i) s n r c 0 v y → Gives (makeOf (inputTerm i x)) s n r c 0 v y
+  unfolding inputTerm if_equals_then_else_
+  input-free-word h k l g = rw (ne-eqb _ _ h, ne-eqb _ _ k, ne-eqb _ _ l) g
+
+pub ruleset inputs = (input-truth, input-word, input-free-truth, input-free-word)
+
+module _ (xs : List Input) (i : ℕ) {s : List ℕ} {c : ℕ} where
+  pub open-end : 16 ≤ i → {r e v : ℕ} → Gives (give noBinding) s c r e 0 v s → Gives (openFrom i (from noInput xs i (16 - i))) s c r e 0 v s
+  unfolding openFrom from
+  open-end h g = let e : 16 - i ≡ zero = omega arith in rw (e, from, openFrom) g
+
+  module _ (h : i < 16) {x : Input} (ex : x ≡ getD xs i noInput) {r e v : ℕ} {y : List ℕ} (g : Gives (makeOf (inputTerm i x)) s c r e 0 v y) where
     first : Gives (makeOf (inputTerm i (getD xs i noInput))) s c r e 0 v y
-    first = rw (← ex, ← et) g
+    first = rw (← ex) g
 
     pub open-stop : (r ≡ 0 → ⊥) → {a w : ℕ} → Gives (openFrom i (from noInput xs i (16 - i))) s c r e w a y
     unfolding openFrom from
@@ -41,7 +61,7 @@ module _ (xs : List Input) (i : ℕ) {s : List ℕ} {c : ℕ} where
       unfolding openFrom from
       open-stop-later p = let q : 16 - i ≡ suc (16 - (i + 1)) = omega arith in rw (q, from, openFrom) (then-on _ first o (then-stop _ j p))
 
-      pub open-on : m ≡ 0 → {n f a : ℕ} {w : List ℕ} → Gives (makeOf (term bindingTerm 0 v k 0)) z d n f 0 a w
+      pub open-on : m ≡ 0 → {n f a : ℕ} {w : List ℕ} → Gives (makeBindingOf v k) z d n f 0 a w
           → Gives (openFrom i (from noInput xs i (16 - i))) s c n f 0 a w
       unfolding openFrom from
       open-on p u = let q : 16 - i ≡ suc (16 - (i + 1)) = omega arith in rw (q, from, openFrom) (then-on _ first o (then-on _ j p u))

@@ -3,7 +3,6 @@ use mathlib.Core.Path.{_≡_, refl, sym, ap, _∙_}
 use mathlib.Core.Bool.{Bool, true, false, not, _||_}
 use mathlib.Core.List.{List, []}
 use Prim.Native.Nat.{ℕ, zero, _-_, _%_, _≤_}
-use native.Mathlib.Nat.{sub-zero}
 use native.Mathlib.Omega.{arith}
 use lib.ListN.{length, replicate, length-replicate}
 use lib.Dec.{eqb, ltb}
@@ -18,7 +17,9 @@ use Rattle.semantics.specs.Terms.{termsIn, imageOf}
 use Rattle.semantics.specs.Steps.{Got, gave, refused, settingOf}
 use Rattle.semantics.specs.Opening.{badTableSize, inputTaken, opening, openingFrom, sessionOf, openOf}
 use Rattle.terms.specs.Search.{codeSetting}
-use Rattle.terms.specs.Gives.{shown, Gives, wiped}
+use Rattle.records.specs.Wiped.{wiped}
+use Rattle.records.proofs.Wiped.{wiped-all}
+use Rattle.terms.specs.Gives.{shown, Gives}
 use Rattle.terms.proofs.Tables.{terms-length}
 use Rattle.opening.specs.Openings.{openAll}
 use Rattle.opening.proofs.Order.{same-opening}
@@ -41,10 +42,6 @@ sized l h = go (eqb (l % 8) 0) (ltb l leastTable) (ltb mostTable l) refl refl re
     go true true c p q r e = let w : _≡_ {A = ℕ} 0 1 = cc in absurd (omega arith)
     go false b c p q r e = let w : _≡_ {A = ℕ} 0 1 = cc in absurd (omega arith)
 
-zeros : (s : List ℕ) → wiped s 0 ≡ replicate (length s) 0
-unfolding wiped
-zeros s = rw (sub-zero (length s))
-
 -- the code answers, with these terms
 record Answered (r e a : ℕ) (ts us : List Term) : Type 0 where
   none : r ≡ 0
@@ -61,12 +58,12 @@ answered r ts us e a h = go (eqb r 0) refl h
 module _ (xs : List Input) (s w : List ℕ) (ew : w ≡ wiped s 0) (z : badTableSize (length s) ≡ false) (t : every inputTaken xs ≡ true) (n : length xs ≡ 16)
     {r c e : ℕ} {y : List ℕ} (g : Gives (openAll xs) w 0 r c 0 e y) where
   size : length w ≡ length s
-  size = ap length (ew ∙ zeros s) ∙ length-replicate (length s) 0
+  size = ap length (ew ∙ wiped-all s) ∙ length-replicate (length s) 0
 
   image : y ≡ imageOf (length s) (termsIn y c)
   unfolding imageOf termsIn
   image =
-      let k : w ≡ replicate (length w) 0 = ew ∙ (zeros s ∙ ap (λ (l : ℕ). replicate l 0) (sym size)) in
+      let k : w ≡ replicate (length w) 0 = ew ∙ (wiped-all s ∙ ap (λ (l : ℕ). replicate l 0) (sym size)) in
       g .kept .whole k ∙ ap (λ (l : ℕ). imageOf l (termsIn y c)) (g .kept .long ∙ size)
 
   pub terms : termsIn y c ≡ opening xs .terms

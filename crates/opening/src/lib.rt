@@ -1,18 +1,18 @@
-// Opening a session: the refusals 1 and 2, and the terms of the inputs, made through the same factory path as
+// Opening a session: the refusals 1 and 2, and the terms of the inputs, made by the same factory as
 // evaluation's. A refused table is left untouched. No public function has a `requires`.
 use semantics::Input;
 use semantics::Opened;
 use semantics::Session;
 use semantics::State;
-use semantics::Term;
 use semantics::numbers;
 use terms::Made;
 ghost use mathlib.Core.Path.{_≡_};
 ghost use Prim.Native.Nat.{_-_, _≤_};
 ghost use lib.ListN.{getD};
 ghost use Rattle.notation.specs.Notation.{every};
+ghost use Rattle.semantics.specs.Steps.{makeOf};
 ghost use Rattle.semantics.specs.Opening.{badTableSize, inputTaken, inputTerm, sessionOf, openOf};
-ghost use Rattle.terms.specs.Gives.{Gives, from};
+ghost use Rattle.terms.specs.Gives.{Makes, from};
 ghost use Rattle.opening.specs.Openings.{noInput, openFrom, openAll};
 
 // Refusal 1, of a table's length in bytes.
@@ -32,8 +32,8 @@ pub fn bad_table_size(l: usize) -> bool
 fn input_taken(x: Input) -> bool
     ensures { λ r. ⌜ r ≡ inputTaken x ⌝ }
 {
-    let k = x.kind;
-    match k {
+    let kind = x.kind;
+    match kind {
         numbers::CONSTANT_TRUTH => x.value < 2,
         numbers::CONSTANT_WORD => true,
         numbers::FREE_TRUTH => x.value == 0,
@@ -69,96 +69,50 @@ pub fn inputs_taken(inputs: [Input; 16]) -> bool
 }
 
 // The term of input i.
-fn input_term(i: u16, x: Input) -> Term
-    ensures { λ r. ⌜ r ≡ inputTerm i x ⌝ }
+fn make_input(table: &mut [u8], count: u16, i: u16, x: Input) -> Made
+    ensures { λ r. ⌜ Makes (makeOf (inputTerm i x)) (now (table .entry)) count r (now (table .exit)) ⌝ }
 {
-    let k = x.kind;
-    match k {
-        numbers::CONSTANT_TRUTH => Term {
-            kind: numbers::TRUTH_TERM,
-            op: 0,
-            a: terms::truth_number(x.value),
-            b: 0,
-            c: 0,
-        },
-        numbers::CONSTANT_WORD => terms::word_term(x.value),
-        numbers::FREE_TRUTH => Term {
-            kind: numbers::FREE_TRUTH_TERM,
-            op: 0,
-            a: i,
-            b: 0,
-            c: 0,
-        },
-        _ => Term {
-            kind: numbers::FREE_WORD_TERM,
-            op: 0,
-            a: i,
-            b: 0,
-            c: 0,
-        },
+    let kind = x.kind;
+    match kind {
+        numbers::CONSTANT_TRUTH => factory::make_truth(table, count, terms::truth_number(x.value)),
+        numbers::CONSTANT_WORD => factory::make_word(table, count, x.value),
+        numbers::FREE_TRUTH => factory::make_free(table, count, numbers::FREE_TRUTH_TERM, i),
+        _ => factory::make_free(table, count, numbers::FREE_WORD_TERM, i),
     }
 }
 
 // The terms of the inputs from number i on, then their bindings, the last input's first.
 fn open_from(table: &mut [u8], count: u16, inputs: [Input; 16], i: u16) -> Made
     requires { ⌜ i ≤ 16 ⌝ }
-    ensures { λ r. ⌜ Gives (openFrom i (from noInput inputs i (16 - i))) (now (table .entry)) count (r .refusal) (r .count) 0 (r .number) (now (table .exit)) ⌝ }
+    ensures { λ r. ⌜ Makes (openFrom i (from noInput inputs i (16 - i))) (now (table .entry)) count r (now (table .exit)) ⌝ }
 {
     if i >= numbers::INPUT_COUNT {
-        return Made {
-            refusal: 0,
-            count: count,
-            number: numbers::NO_BINDING,
-        };
+        return terms::present(table, count, numbers::NO_BINDING);
     }
-    let v = terms::make(table, count, input_term(i, input(inputs, i)));
-    if v.refusal != 0 {
-        return v;
+    let value = make_input(table, count, i, input(inputs, i));
+    if value.refusal != 0 {
+        return value;
     }
-    let e = open_from(table, v.count, inputs, i + 1);
-    if e.refusal != 0 {
-        return e;
+    let later = open_from(table, value.count, inputs, i + 1);
+    if later.refusal != 0 {
+        return later;
     }
-    terms::make(
-        table,
-        e.count,
-        Term {
-            kind: numbers::BINDING_TERM,
-            op: 0,
-            a: v.number,
-            b: e.number,
-            c: 0,
-        },
-    )
+    factory::make_binding(table, later.count, value.number, later.number)
 }
 
 // All terms of an opening, on a table with none yet.
 pub fn open_all(table: &mut [u8], inputs: [Input; 16]) -> Made
-    ensures { λ r. ⌜ Gives (openAll inputs) (now (table .entry)) 0 (r .refusal) (r .count) 0 (r .number) (now (table .exit)) ⌝ }
+    ensures { λ r. ⌜ Makes (openAll inputs) (now (table .entry)) 0 r (now (table .exit)) ⌝ }
 {
-    let no = Term {
-        kind: numbers::TRUTH_TERM,
-        op: 0,
-        a: 0,
-        b: 0,
-        c: 0,
-    };
-    let f = terms::make(table, 0, no);
-    if f.refusal != 0 {
-        return f;
+    let no = factory::make_truth(table, 0, 0);
+    if no.refusal != 0 {
+        return no;
     }
-    let yes = Term {
-        kind: numbers::TRUTH_TERM,
-        op: 0,
-        a: 1,
-        b: 0,
-        c: 0,
-    };
-    let t = terms::make(table, f.count, yes);
-    if t.refusal != 0 {
-        return t;
+    let yes = factory::make_truth(table, no.count, 1);
+    if yes.refusal != 0 {
+        return yes;
     }
-    open_from(table, t.count, inputs, 0)
+    open_from(table, yes.count, inputs, 0)
 }
 
 // The session at the start, with `count` terms.
@@ -193,10 +147,10 @@ pub fn open(inputs: [Input; 16], table: &mut [u8]) -> Opened
             session: session(inputs, 0),
         };
     }
-    terms::wipe(table, 0);
-    let m = open_all(table, inputs);
+    records::wipe(table, 0);
+    let opened = open_all(table, inputs);
     Opened {
         refusal: 0,
-        session: session(inputs, m.count),
+        session: session(inputs, opened.count),
     }
 }

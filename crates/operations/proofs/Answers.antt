@@ -3,7 +3,6 @@ use mathlib.Core.Path.{_≡_, _∙_}
 use mathlib.Core.Bool.{Bool, true, false}
 use mathlib.Core.List.{List}
 use Prim.Native.Nat.{ℕ, _<_, _≤_}
-use native.Mathlib.Nat.{sub-zero}
 use lib.ListN.{length, replicate}
 use borrow.Author.Tests.{lt-ltb, le-ltb}
 use Rattle.notation.specs.Notation.{with, if_then_else_, if_below_then_else_, unless_then_else_, every}
@@ -22,12 +21,12 @@ use Rattle.semantics.specs.Reading.{numbersTaken, resultTaken, readOutcome, rea
 use Rattle.semantics.specs.Run.{inputsBound}
 use Rattle.semantics.specs.PlainRun.{storedOutcome, startedOf, placesIn, runOutcome, runPlainlyOf}
 use Rattle.reader.specs.Reader.{outcomeIn}
-use Rattle.terms.specs.Gives.{wiped}
+use Rattle.records.specs.Wiped.{wiped}
+use Rattle.records.proofs.Wiped.{wiped-all}
 
 -- a slice that is wiped from its first place on
 pub all-wiped : (s : List ℕ) {y : List ℕ} → y ≡ wiped s 0 → y ≡ replicate (length s) 0
-unfolding wiped
-all-wiped s h = h ∙ rw (sub-zero (length s))
+all-wiped s h = h ∙ wiped-all s
 
 -- ---- reading
 module _ (x : Session) (s numbers : List ℕ) (r : Result) (work : List ℕ) {o : Outcome} {y : List ℕ} (ey : y ≡ replicate (length work) 0) {b : Bool} (eb : b ≡ fitsOf x s) where

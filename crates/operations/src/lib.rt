@@ -59,7 +59,7 @@ fn bad_depth(allowance: u16) -> bool
 fn unrun(refusal: u8, store: &mut [u8]) -> Outcome
     ensures { λ r. ⌜ r ≡ Refused refusal ⌝ ∗ ⌜ now (store .exit) ≡ replicate (length (now (store .entry))) 0 ⌝ }
 {
-    terms::wipe(store, 0);
+    records::wipe(store, 0);
     Outcome::Refused(refusal)
 }
 

@@ -1,13 +1,15 @@
 // Records of 8 bytes in a lent byte slice. What stands past the last byte reads as 0, so nothing reads past a
-// slice whatever its length. No function has a `requires`.
+// slice whatever its length. Only `write` has a `requires`: the room for a record.
 use semantics::Record;
 use semantics::Term;
 use words::Word;
 ghost use mathlib.Core.Path.{_≡_};
-ghost use Prim.Native.Nat.{_+_, _*_};
-ghost use lib.ListN.{getD};
-ghost use Rattle.semantics.specs.Records.{recordAt, datumWord, fieldOf};
+ghost use mathlib.Core.List.{_++_};
+ghost use Prim.Native.Nat.{_+_, _*_, _≤_};
+ghost use lib.ListN.{getD, length, drop};
+ghost use Rattle.semantics.specs.Records.{recordAt, recordBytes, datumWord, fieldOf};
 ghost use Rattle.semantics.specs.Terms.{termAt};
+ghost use Rattle.records.specs.Wiped.{wiped};
 
 // The byte at a position; 0 past the end.
 pub fn byte(s: &[u8], at: usize) -> u8
@@ -17,7 +19,7 @@ pub fn byte(s: &[u8], at: usize) -> u8
 }
 
 // The number of two bytes.
-fn pair(low: u8, high: u8) -> u16
+pub fn pair(low: u8, high: u8) -> u16
     ensures { λ r. ⌜ r ≡ low + 256 * high ⌝ }
 {
     (low as u16) + 256 * (high as u16)
@@ -62,5 +64,29 @@ pub fn term_at(s: &[u8], i: u16) -> Term
         a: x.p,
         b: x.q,
         c: x.r,
+    }
+}
+
+// A record, or a term, of these fields at the start of a slice.
+pub fn write(tail: &mut [u8], kind: u8, op: u8, p: u16, q: u16, r: u16)
+    requires { ⌜ 8 ≤ length (now tail) ⌝ }
+    ensures { λ _. ⌜ now (tail .exit) ≡ recordBytes kind op p q r ++ drop 8 (now (tail .entry)) ⌝ }
+{
+    tail[0] = kind;
+    tail[1] = op;
+    tail[2] = (p % 256) as u8;
+    tail[3] = (p / 256) as u8;
+    tail[4] = (q % 256) as u8;
+    tail[5] = (q / 256) as u8;
+    tail[6] = (r % 256) as u8;
+    tail[7] = (r / 256) as u8;
+}
+
+// Zero from a place on.
+pub fn wipe(s: &mut [u8], from: usize)
+    ensures { λ _. ⌜ now (s .exit) ≡ wiped (now (s .entry)) from ⌝ }
+{
+    for k in from..s.len() {
+        s[k] = 0;
     }
 }

@@ -10,11 +10,11 @@ use Rattle.semantics.specs.declared.State.{State}
 use Rattle.semantics.specs.declared.Result.{Result}
 use Rattle.semantics.specs.declared.Leaf.{Leaf}
 use Rattle.semantics.specs.declared.Branch.{Branch}
-use Rattle.semantics.specs.Numbers.{datumRecord, variableRecord, procedureRecord, callRecord, operatorRecord, letRecord, ifRecord, abortRecord, wordDatum, notCode, isWordCode, procedureTerm, bindingTerm, falseNumber, depthSpent}
+use Rattle.semantics.specs.Numbers.{datumRecord, variableRecord, procedureRecord, callRecord, operatorRecord, letRecord, ifRecord, abortRecord, wordDatum, notCode, isWordCode, procedureTerm, falseNumber, depthSpent}
 use Rattle.semantics.specs.Records.{recordAt, datumWord}
-use Rattle.semantics.specs.Terms.{term, wordTermOf, at}
-use Rattle.semantics.specs.Steps.{Make, _>>=_, _▹_, give, refuse, each, makeOf, reads, seen, up}
-use Rattle.semantics.specs.Factory.{notOf, andOf, truthOf, isWordOf, isProcedureOf, operatorTermOf}
+use Rattle.semantics.specs.Terms.{at}
+use Rattle.semantics.specs.Steps.{Make, _>>=_, _▹_, give, refuse, each, reads, seen, up}
+use Rattle.semantics.specs.Factory.{makeWordOf, makeProcedureOf, makeBindingOf, notOf, andOf, truthOf, isWordOf, isProcedureOf, operatorTermOf}
 use Rattle.semantics.specs.States.{assumeOf, assertOf, halts, outOf, haltOf}
 use Rattle.semantics.specs.Walk.{aimOf}
 use Rattle.semantics.specs.Merge.{branchOf, mergeOf}
@@ -32,10 +32,10 @@ placeOf (suc p) e ts = placeOf p (at ts e .b) ts
 
 -- "Datum, variable, procedure: that value." The terms false and true have the ops' numbers.
 unfoldable pub datumOf : ℕ → ℕ → State → Make Result
-datumOf op w x = if op equals wordDatum then (with (wordTermOf w) λ t. makeOf t ▹ λ v. outOf x v) else give (outOf x op)
+datumOf op w x = if op equals wordDatum then (makeWordOf w ▹ λ v. outOf x v) else give (outOf x op)
 
 unfoldable pub procedureOf : ℕ → ℕ → ℕ → State → Make Result
-procedureOf i env before x = makeOf (term procedureTerm 0 i env before) ▹ λ v. outOf x v
+procedureOf i env before x = makeProcedureOf i env before ▹ λ v. outOf x v
 
 -- "Abort and error halt after assuming or asserting false."
 unfoldable pub abortOf : State → Make Result
@@ -69,7 +69,7 @@ secondOf op q env ts = with (operandsOf op) λ n. if n equals 1 then 0 else plac
 
 -- a part under one more binding
 unfoldable pub underOf : Run → ℕ → ℕ → ℕ → State → Make Result
-underOf run q v env x = makeOf (term bindingTerm 0 v env 0) >>= λ e. run q e x
+underOf run q v env x = makeBindingOf v env >>= λ e. run q e x
 
 -- "Let: a halt of the first part is the answer."
 unfoldable pub letOf : Run → ℕ → ℕ → ℕ → State → Make Result

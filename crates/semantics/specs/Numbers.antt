@@ -108,6 +108,16 @@ falseNumber = 0
 abbrev pub trueNumber : ℕ
 trueNumber = 1
 
+-- ---- what is known of a term: it is the constant false, the constant true, or anything else
+abbrev pub knownFalse : ℕ
+knownFalse = 0
+
+abbrev pub knownTrue : ℕ
+knownTrue = 1
+
+abbrev pub unknown : ℕ
+unknown = 2
+
 -- ---- the end of a chain of bindings
 abbrev pub noBinding : ℕ
 noBinding = 65535

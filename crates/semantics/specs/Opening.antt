@@ -9,9 +9,10 @@ use Rattle.semantics.specs.declared.Term.{Term}
 use Rattle.semantics.specs.declared.Input.{Input}
 use Rattle.semantics.specs.declared.Session.{Session}
 use Rattle.semantics.specs.declared.Opened.{Opened}
-use Rattle.semantics.specs.Numbers.{constantTruth, constantWord, freeTruth, freeWord, truthTerm, freeTruthTerm, freeWordTerm, bindingTerm, noBinding, trueNumber, leastTable, mostTable, tableSize, badInput}
+use Rattle.semantics.specs.Numbers.{constantTruth, constantWord, freeTruth, freeWord, truthTerm, freeTruthTerm, freeWordTerm, noBinding, trueNumber, leastTable, mostTable, tableSize, badInput}
 use Rattle.semantics.specs.Terms.{term, wordTermOf, truthNumber, imageOf}
 use Rattle.semantics.specs.Steps.{settingOf, Got, gave, refused, Make, _>>=_, _▹_, give, makeOf}
+use Rattle.semantics.specs.Factory.{makeTruthOf, makeBindingOf}
 
 -- ---- 1: "table bytes not a multiple of 8, below 272 or above 65,536"
 unfoldable pub badTableSize : ℕ → Bool
@@ -44,11 +45,11 @@ inputsOf i (x ∷ xs) = makeOf (inputTerm i x) >>= λ v. inputsOf (suc i) xs ▹
 -- the bindings of these values, the last value's first; the number of the first value's
 unfoldable pub chainOf : List ℕ → Make ℕ
 chainOf [] = give noBinding
-chainOf (v ∷ vs) = chainOf vs >>= λ e. makeOf (term bindingTerm 0 v e 0)
+chainOf (v ∷ vs) = chainOf vs >>= λ e. makeBindingOf v e
 
 -- the terms of an opening; the number of input 0's binding, where every rule starts
 unfoldable pub openingOf : List Input → Make ℕ
-openingOf xs = makeOf (term truthTerm 0 0 0 0) >>= λ f. makeOf (term truthTerm 0 1 0 0) >>= λ t. inputsOf 0 xs >>= λ vs. chainOf vs
+openingOf xs = makeTruthOf 0 >>= λ f. makeTruthOf 1 >>= λ t. inputsOf 0 xs >>= λ vs. chainOf vs
 
 -- What opening writes. At most 34 terms, so that no table that 1 takes is too short.
 pub record Opening : Type 0 where

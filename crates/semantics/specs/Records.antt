@@ -1,7 +1,7 @@
 -- Records of 8 bytes (document 01, "Rule records"). What stands past the last byte reads as 0. Assumes nothing.
-use Prim.Native.Nat.{ℕ, _+_, _*_, _/_}
+use Prim.Native.Nat.{ℕ, _+_, _*_, _/_, _%_}
 use mathlib.Core.Bool.{Bool, true}
-use mathlib.Core.List.{List}
+use mathlib.Core.List.{List, [], _∷_}
 use lib.Dec.{eqb}
 use lib.ListN.{getD, length}
 use Rattle.notation.specs.Notation.{if_below_then_else_}
@@ -16,6 +16,10 @@ pairAt s i = getD s i 0 + 256 * getD s (i + 1) 0
 unfoldable pub recordAt : List ℕ → ℕ → Record
 recordAt s i =
     record { kind = getD s (8 * i) 0; op = getD s (8 * i + 1) 0; p = pairAt s (8 * i + 2); q = pairAt s (8 * i + 4); r = pairAt s (8 * i + 6) }
+
+-- the 8 bytes of a record, or of a term, that has these fields
+abbrev pub recordBytes : ℕ → ℕ → ℕ → ℕ → ℕ → List ℕ
+recordBytes kind op p q r = kind ∷ op ∷ p % 256 ∷ p / 256 ∷ q % 256 ∷ q / 256 ∷ r % 256 ∷ r / 256 ∷ []
 
 -- the word of the bytes at a position, the low half first
 abbrev pub wordAt : List ℕ → ℕ → ℕ

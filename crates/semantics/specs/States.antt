@@ -6,6 +6,7 @@ use Rattle.notation.specs.Notation.{with, if_equals_then_else_}
 use Rattle.semantics.specs.declared.Term.{Term}
 use Rattle.semantics.specs.declared.State.{State}
 use Rattle.semantics.specs.declared.Result.{Result}
+use Rattle.semantics.specs.Numbers.{knownFalse}
 use Rattle.semantics.specs.Terms.{at, knownOf}
 use Rattle.semantics.specs.Steps.{Make, _>>=_, _▹_, reads}
 use Rattle.semantics.specs.Factory.{andOf, impliesOf}
@@ -31,8 +32,8 @@ assertOf x g = mergeAssertedOf x (x .assumed) g
 -- "A state with false on either side halts."
 unfoldable pub haltsOf : State → List Term → Bool
 haltsOf x ts =
-    with (knownOf (at ts (x .assumed))) λ k. if k equals 0 then true else
-    with (knownOf (at ts (x .asserted))) λ l. if l equals 0 then true else false
+    with (knownOf (at ts (x .assumed))) λ k. if k equals knownFalse then true else
+    with (knownOf (at ts (x .asserted))) λ l. if l equals knownFalse then true else false
 
 -- by whether a state halts
 abbrev pub halts : {A : Type 0} → State → (Bool → Make A) → Make A

@@ -1,6 +1,6 @@
 -- Terms and tables (document 01, "Terms"). The terms of a table are a list, newest first: a term's number is how many stand after it.
 -- Assumes nothing.
-use Prim.Native.Nat.{ℕ, zero, suc, _+_, _*_, _/_, _%_}
+use Prim.Native.Nat.{ℕ, zero, suc, _*_}
 use mathlib.Core.Bool.{Bool, true, false, not, _&&_, _||_}
 use mathlib.Core.List.{List, [], _∷_, _++_}
 use lib.Dec.{eqb, ltb}
@@ -10,8 +10,8 @@ use Rattle.words.specs.Words.{wordFields, lowOf, highOf, joinOf}
 use Rattle.operators.specs.Operators.{operandsOf, givesTruthOf}
 use Rattle.semantics.specs.declared.Term.{Term}
 use Rattle.semantics.specs.declared.Found.{Found}
-use Rattle.semantics.specs.Numbers.{truthTerm, wordTerm, freeTruthTerm, freeWordTerm, operatorTerm, choiceTerm, procedureTerm, bindingTerm, notCode, isWordCode, isProcedureCode, negationCode, conjunctionCode, disjunctionCode, truthCode, falseNumber, trueNumber, noBinding, inputCount, recordLimit}
-use Rattle.semantics.specs.Records.{recordAt, fieldOf}
+use Rattle.semantics.specs.Numbers.{truthTerm, wordTerm, freeTruthTerm, freeWordTerm, operatorTerm, choiceTerm, procedureTerm, bindingTerm, notCode, isWordCode, isProcedureCode, negationCode, conjunctionCode, disjunctionCode, truthCode, falseNumber, trueNumber, knownFalse, knownTrue, unknown, noBinding, inputCount, recordLimit}
+use Rattle.semantics.specs.Records.{recordAt, recordBytes, fieldOf}
 
 abbrev pub term : ℕ → ℕ → ℕ → ℕ → ℕ → Term
 term k o x y z = record { kind = k; op = o; a = x; b = y; c = z }
@@ -36,7 +36,7 @@ unfoldable pub termAt : List ℕ → ℕ → Term
 termAt s i = with (recordAt s i) λ x. term (x .kind) (x .op) (x .p) (x .q) (x .r)
 
 unfoldable pub bytesOf : Term → List ℕ
-bytesOf t = t .kind ∷ t .op ∷ t .a % 256 ∷ t .a / 256 ∷ t .b % 256 ∷ t .b / 256 ∷ t .c % 256 ∷ t .c / 256 ∷ []
+bytesOf t = recordBytes (t .kind) (t .op) (t .a) (t .b) (t .c)
 
 -- the first n terms of a table
 unfoldable pub termsIn : List ℕ → ℕ → List Term
@@ -87,9 +87,9 @@ sortOf t =
     if t .kind equals bindingTerm then bindingTerm else
     0
 
--- a truth constant: 0 false, 1 true; 2 is anything else
+-- whether a term is a truth constant, and which
 unfoldable pub knownOf : Term → ℕ
-knownOf t = if t .kind equals truthTerm then (if t .a equals 0 then 0 else 1) else 2
+knownOf t = if t .kind equals truthTerm then (if t .a equals 0 then knownFalse else knownTrue) else unknown
 
 -- ---- the layout of a term over the terms below it. "A term names only lower terms": a number that is not lower names the blank term, of no sort.
 unfoldable pub namesTruth : List Term → ℕ → Bool

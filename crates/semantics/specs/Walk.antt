@@ -6,7 +6,7 @@ use Rattle.notation.specs.Notation.{with, if_equals_then_else_, if_below_then_e
 use Rattle.semantics.specs.declared.Term.{Term}
 use Rattle.semantics.specs.declared.State.{State}
 use Rattle.semantics.specs.declared.Leaf.{Leaf}
-use Rattle.semantics.specs.Numbers.{choiceTerm, procedureTerm, leafLimit, termLimit, callTooWide, falseNumber, trueNumber}
+use Rattle.semantics.specs.Numbers.{choiceTerm, procedureTerm, leafLimit, termLimit, callTooWide, falseNumber, trueNumber, knownFalse}
 use Rattle.semantics.specs.Steps.{Make, _>>=_, _▹_, give, refuse, each, look, seen}
 use Rattle.semantics.specs.Factory.{notOf, andOf, orOf}
 use Rattle.semantics.specs.States.{assertOf}
@@ -21,7 +21,7 @@ Walk = ℕ → ℕ → List Leaf → Make (List Leaf)
 
 -- "A side with a false guard is passed over"
 unfoldable pub sideOf : Walk → Walk
-sideOf walk g x found = seen g λ k. if k equals 0 then give found else walk g x found
+sideOf walk g x found = seen g λ k. if k equals knownFalse then give found else walk g x found
 
 -- "A left guard is and(path, test), a right one and(path, not test), each made as that side is entered."
 unfoldable pub leftSideOf : Walk → ℕ → ℕ → ℕ → List Leaf → Make (List Leaf)

@@ -53,6 +53,12 @@ pub struct Leaf {
     pub term: Term,
 }
 
+// The value of the branches that a merge has met: whether any of them gave one, and what they come to.
+pub struct Folded {
+    pub any: bool,
+    pub value: u16,
+}
+
 // A result under its guard, as a merge takes it.
 pub struct Branch {
     pub guard: u16,

@@ -74,6 +74,13 @@ pub const FALSE_NUMBER: u16 = 0;
 
 pub const TRUE_NUMBER: u16 = 1;
 
+// What is known of a term: it is the constant false, the constant true, or anything else.
+pub const KNOWN_FALSE: u8 = 0;
+
+pub const KNOWN_TRUE: u8 = 1;
+
+pub const UNKNOWN: u8 = 2;
+
 // The end of a chain of bindings.
 pub const NO_BINDING: u16 = 65535;
 

@@ -21,7 +21,8 @@ use Rattle.semantics.specs.Fits.{fitsOf}
 use Rattle.semantics.specs.Answers.{answerOf}
 use Rattle.semantics.specs.Evaluate.{refusedBy, advanced, evaluated}
 use Rattle.terms.specs.Search.{codeSetting}
-use Rattle.terms.specs.Gives.{shown, Gives, wiped}
+use Rattle.records.specs.Wiped.{wiped}
+use Rattle.terms.specs.Gives.{shown, Gives}
 use Rattle.terms.proofs.Tables.{terms-length}
 use Rattle.terms.proofs.Wiped.{restored}
 use Rattle.terms.proofs.Image.{image-whole}

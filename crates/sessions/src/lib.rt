@@ -51,7 +51,7 @@ fn evaluated(session: Session, table: &mut [u8], rule: &[u8], allowance: u16) ->
         session.accepted,
     );
     if o.refusal != 0 {
-        terms::wipe(table, (session.count as usize) * 8);
+        records::wipe(table, (session.count as usize) * 8);
         return Evaluated {
             answer: Answer::Refused(o.refusal),
             session: session,

@@ -231,7 +231,7 @@ module _ {l n : ℕ} {ns : List ℕ} {ts : List Term} {e : ℕ} {x : State} {s t
   pub datum-sim : (op w : ℕ) → op ≤ wordDatum → Sound l n ns ts s t (gives (datumValue op w)) (datumOf op w x)
   unfolding datumOf
   datum-sim op w k =
-      does-eq _ _ (λ i. does-with _ _ (rw (datum-word op w i) (value-does (word-does full w (entry .fit)))))
+      does-eq _ _ (λ i. rw (datum-word op w i) (value-does (word-does full w (entry .fit))))
       (λ i. rw (datum-truth op w i) (does-give _ (entry .fit) (value-sim entry (stay (entry .fit)) (truth-number (entry .fit) op k i))))
 
   pub variable-sim : (p : ℕ) → Sound l n ns ts s t (gives (lookOf p E)) (reads (placeOf p e) λ v. give (outOf x v))

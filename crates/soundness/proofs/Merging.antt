@@ -6,7 +6,7 @@ use Prim.Native.Nat.{ℕ}
 use native.Mathlib.Omega.{arith}
 use Rattle.notation.specs.Notation.{pick}
 use Rattle.semantics.specs.declared.Term.{Term}
-use Rattle.semantics.specs.declared.Found.{Found}
+use Rattle.semantics.specs.declared.Folded.{Folded}
 use Rattle.semantics.specs.declared.State.{State}
 use Rattle.semantics.specs.declared.Result.{Result}
 use Rattle.semantics.specs.declared.Branch.{Branch}
@@ -229,9 +229,9 @@ off-unspent false true p n e = let z : _≡_ {A = ℕ} 0 1 = cc in omega arith
 off-unspent false false p n e = let z : _≡_ {A = ℕ} 0 1 = cc in omega arith
 
 -- the value of the branches that did not halt, if there is one
-data Chosen (ns : List ℕ) : List BranchReading → List Term → Found → Type 0 where
-  none-runs : {ts : List Term} {v : Found} → v .is ≡ false → Chosen ns [] ts v
-  some-run : {x : BranchReading} {xs : List BranchReading} {ts : List Term} {v : Found} → v .is ≡ true → MeansValue ns (pickedValue x xs) ts (v .at) → Chosen ns (x ∷ xs) ts v
+data Chosen (ns : List ℕ) : List BranchReading → List Term → Folded → Type 0 where
+  none-runs : {ts : List Term} {v : Folded} → v .any ≡ false → Chosen ns [] ts v
+  some-run : {x : BranchReading} {xs : List BranchReading} {ts : List Term} {v : Folded} → v .any ≡ true → MeansValue ns (pickedValue x xs) ts (v .value) → Chosen ns (x ∷ xs) ts v
 
 module _ {l n : ℕ} {N : ℕ → Type 0} (room : N tableFull) {ns : List ℕ} where
   -- The branches stay promised of the table at the start, and what is made goes on from there: so the recursion is on that promise.
@@ -256,7 +256,7 @@ module _ {l n : ℕ} {N : ℕ → Type 0} (room : N tableFull) {ns : List ℕ} w
   unfolding mergeStatesOf
   states-does f h r = does-then (assumed-does (stay f) h r) (λ us y p hy. asserted-does p hy r)
 
-  value-step-does : {ts : List Term} {o : Seen} {b : Branch} {x : BranchReading} {ys : List BranchReading} {v : Found} → Fit n ts → BranchMeans ns ts o b x → Chosen ns ys ts v
+  value-step-does : {ts : List Term} {o : Seen} {b : Branch} {x : BranchReading} {ys : List BranchReading} {v : Folded} → Fit n ts → BranchMeans ns ts o b x → Chosen ns ys ts v
       → Does l n (valueStepOf b v) ts (Chosen ns (unlessHalted (x .halted) x ys)) N
   unfolding valueStepOf
   value-step-does {b = b} f h (none-runs e) =
@@ -273,15 +273,15 @@ module _ {l n : ℕ} {N : ℕ → Type 0} (room : N tableFull) {ns : List ℕ} w
       does-then (values-does z r) (λ us v p q. value-step-does (p .fit) (branch-step (step-on z p) h) q)
 
   -- with the formulas of the outcome, and a value that reads as it
-  finish-does : {ts : List Term} {x : State} {v : Found} {o : Seen} (ys : List BranchReading) → Fit n ts → StateMeans ns (assumedIn o) (assertedIn o) ts x → Chosen ns ys ts v
+  finish-does : {ts : List Term} {x : State} {v : Folded} {o : Seen} (ys : List BranchReading) → Fit n ts → StateMeans ns (assumedIn o) (assertedIn o) ts x → Chosen ns ys ts v
       → (o ≡ ends spends → ⊥) → ((w : Value) → o ≡ ends (gives w) → ValuesAgree w ys × any ys ≡ true) → Does l n (finishOf x v) ts (Sim ns o) N
   unfolding finishOf
   finish-does {x = x} {v} {o} ys f h (none-runs e) u q =
       let d : (assumedIn o && assertedIn o) ≡ false = not-normal o u (λ w i. never (q w i .1)) in
-      does-if (v .is) (λ i. never (sym e ∙ i)) (λ i. does-give _ f (sim-halt f h d (λ w. re-see o w u (λ k i. never (q k i .1)))))
+      does-if (v .any) (λ i. never (sym e ∙ i)) (λ i. does-give _ f (sim-halt f h d (λ w. re-see o w u (λ k i. never (q k i .1)))))
   finish-does {x = x} {v} {o} ys f h (some-run {x = y} {xs = zs} e c) u q =
       let s : on (assumedIn o) (assertedIn o) (gives (pickedValue y zs)) ≡ o = re-see o (pickedValue y zs) u (λ w i. picks y zs (q w i .0) (q w i .1)) in
-      does-if (v .is) (λ i. does-read _ _ (does-if _
+      does-if (v .any) (λ i. does-read _ _ (does-if _
       (λ j. let d = stops-dead f h j in does-give _ f (sim-halt f h d (λ w. on-off (assumedIn o) (assertedIn o) (gives w) (gives (pickedValue y zs)) d ∙ s)))
       (λ j. does-give _ f (sim-out h c (runs-live f h j) s)))) (λ i. never (sym i ∙ e))
 

@@ -144,7 +144,7 @@ module _ {l n : ℕ} {N : ℕ → Type 0} (full : N tableFull) {ns : List ℕ} {
   constant-does op x y =
       does-with _ _ (does-if (givesTruthOf op)
       (λ e. does-with _ _ (does-give _ f (rw (operation-truth op x y e) (number-is f (operateOf op x y)))))
-      (λ e. does-with _ _ (rw (operation-word op x y e) (word-does full (operateOf op x y) f))))
+      (λ e. rw (operation-word op x y e) (word-does full (operateOf op x y) f)))
 
   pub operator-does : {op a b : ℕ} {v w : Value} → Operands ts op a b → MeansValue ns v ts a → Second ns w ts b → ((operandsOf op ≡ 1 → ⊥) → MeansValue ns w ts b)
       → (Const ts → wordsRun op v w ≡ true) → Does l n (operatorTermOf op a b) ts (MeansValue ns (operatorMeaning op v w)) N

@@ -12,6 +12,7 @@ use borrow.Author.Tests.{eq-eqb, ne-eqb, lt-ltb, le-ltb}
 use Rattle.notation.specs.Notation.{pick, with, if_then_else_, if_equals_then_else_, if_below_then_else_}
 use Rattle.semantics.specs.declared.Term.{Term}
 use Rattle.semantics.specs.declared.Found.{Found}
+use Rattle.semantics.specs.Records.{recordBytes}
 use Rattle.semantics.specs.Terms.{bytesOf, put, imageOf, termsIn}
 use Rattle.semantics.specs.Steps.{Got, gave, refused, Make, deeper, next, _>>=_, give, refuse, makeOf, each, up, upOf, reads, _▹_, roomOf}
 use Rattle.terms.specs.Search.{findAbove, codeSetting}
@@ -114,9 +115,9 @@ module _ (s : List ℕ) (n : ℕ) (t : Term) {f : Found} (e : f ≡ findAbove (t
     put-appends : OnlyAppends s n (put s n t) (n + 1)
     put-appends = record { long = put-length s n t l; grows = omega arith; fits = λ f. rw (put-length s n t l) (omega arith); whole = put-whole; low = put-below s n t l; high = λ k i. put-past s n t l k (omega arith) }
 
-    pub make-new : (y : List ℕ) → y ≡ bytesOf t ++ drop 8 (take (length s - n * 8) (drop (n * 8) s))
+    pub make-new : (y : List ℕ) → y ≡ recordBytes (t .kind) (t .op) (t .a) (t .b) (t .c) ++ drop 8 (take (length s - n * 8) (drop (n * 8) s))
         → Gives (makeOf t) s n 0 (n + 1) 0 n (take (n * 8) s ++ (y ++ drop (length s - n * 8) (drop (n * 8) s)))
-    unfolding makeOf put
+    unfolding makeOf put bytesOf
     make-new y w =
         rw (tail-back s (n * 8) y, w, tail-lent s (n * 8))
         (record { is = simp (sym e, h, terms-length s n, lt-ltb _ _ (room-in n (length s) m l), newest); kept = put-appends })

@@ -1,26 +1,15 @@
 -- A table wiped from its count on is as it was before steps were taken. Assumes nothing.
 use mathlib.Core.Path.{_≡_, refl, sym, ap, _∙_}
 use mathlib.Core.Bool.{Bool, true, false}
-use mathlib.Core.List.{List, _++_, append-nil}
-use Prim.Native.Nat.{ℕ, zero, suc, _+_, _-_, _*_, _<_, _≤_}
-use native.Mathlib.Numerals.{add-one}
+use mathlib.Core.List.{List, _++_}
+use Prim.Native.Nat.{ℕ, _+_, _-_, _*_, _<_, _≤_}
 use native.Mathlib.Omega.{arith}
-use lib.ListN.{length, getD, set, take, replicate, length-append, length-replicate, length-set, List·getD-append, getD-replicate}
-use lib.Seq.{ext-getD, length-take-le, getD-take, getD-append-add, take-all, take-suc-set, append-snoc}
+use lib.ListN.{length, getD, take, replicate, length-append, length-replicate, List·getD-append, getD-replicate}
+use lib.Seq.{ext-getD, length-take-le, getD-take, getD-append-add}
 use lib.Dec.{ltb}
 use borrow.Author.Tests.{ltb-true, ltb-false}
-use Rattle.terms.specs.Gives.{OnlyAppends, wiped}
-
-module _ (s : List ℕ) (k : ℕ) where
-  pub wiped-done : length s ≤ k → wiped s k ≡ s
-  unfolding wiped
-  wiped-done h = let e : length s - k ≡ zero = omega arith in simp (e, take-all k s h, append-nil)
-
-  pub wiped-more : k < length s → wiped (set s k 0) (k + 1) ≡ wiped s k
-  unfolding wiped
-  wiped-more h =
-      let e : length s - k ≡ suc (length s - suc k) = omega arith in
-      simp (length-set, add-one, take-suc-set s k 0 h, append-snoc, e)
+use Rattle.records.specs.Wiped.{wiped}
+use Rattle.terms.specs.Gives.{OnlyAppends}
 
 -- a table with room for n terms, zero after them, on which steps were taken
 module _ (s y : List ℕ) (n m : ℕ) (g : OnlyAppends s n y m) (room : n * 8 ≤ length s) (tail : (k : ℕ) → n * 8 ≤ k → getD s k 0 ≡ 0) where

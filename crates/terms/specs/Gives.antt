@@ -1,14 +1,15 @@
 -- What code that takes a step over a lent table promises. Assumes nothing.
 use mathlib.Core.Path.{_≡_}
-use Prim.Native.Nat.{ℕ, zero, suc, _+_, _-_, _*_, _<_, _≤_, max}
-use mathlib.Core.List.{List, [], _∷_, _++_}
-use lib.ListN.{getD, length, take, replicate}
+use Prim.Native.Nat.{ℕ, zero, suc, _+_, _*_, _<_, _≤_, max}
+use mathlib.Core.List.{List, [], _∷_}
+use lib.ListN.{getD, length}
 use lib.Dec.{eqb}
 use Rattle.notation.specs.Notation.{pick}
 use Rattle.semantics.specs.declared.Term.{Term}
 use Rattle.semantics.specs.Terms.{termsIn, imageOf}
 use Rattle.semantics.specs.Steps.{Got, gave, refused, Make}
 use Rattle.terms.specs.Search.{codeSetting}
+use Rattle.terms.specs.declared.Made.{Made}
 
 -- what the code answers: refusal 0 is an answer, any other a refusal
 abbrev pub shown : {A : Type 0} → ℕ → List Term → A → ℕ → Got A
@@ -28,6 +29,10 @@ pub record Gives {A : Type 0} (m : Make A) (s : List ℕ) (n r c u : ℕ) (a : A
   pub is : shown r (termsIn y c) a u ≡ m (codeSetting (length s)) (termsIn s n)
   pub kept : OnlyAppends s n y c
 
+-- a step that makes a term gives this, where the code answers r
+abbrev pub Makes : Make ℕ → List ℕ → ℕ → Made → List ℕ → Type 0
+Makes m s n r y = Gives m s n (r .refusal) (r .count) 0 (r .number) y
+
 -- a step that gives this, and uses at most the depth d
 pub record Within (d : ℕ) {A : Type 0} (m : Make A) (s : List ℕ) (n r c u : ℕ) (a : A) (y : List ℕ) : Type 0 where
   pub gives : Gives m s n r c u a y
@@ -41,7 +46,3 @@ pub record Leads {A : Type 0} (m : Make A) (s : List ℕ) (n d : ℕ) (l : Make 
 unfoldable pub from : {A : Type 0} → A → List A → ℕ → ℕ → List A
 from z l i zero = []
 from z l i (suc k) = getD l i z ∷ from z l (i + 1) k
-
--- zero from a place on
-unfoldable pub wiped : List ℕ → ℕ → List ℕ
-wiped s k = take k s ++ replicate (length s - k) 0

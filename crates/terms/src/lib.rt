@@ -1,5 +1,5 @@
-// The table of terms in a lent byte slice: reading a term, and making one. A step that makes terms promises
-// `Gives`: what it answers, read with the table at exit, is what its definition gives at entry, and only records
+// The table of terms in a lent byte slice: reading a term, and making one. A step that makes a term promises
+// `Makes`: what it answers, read with the table at exit, is what its definition gives at entry, and only records
 // past the count are written. No public function has a `requires`: reads past the end give 0, and making tests
 // the room itself.
 use semantics::Found;
@@ -7,13 +7,12 @@ use semantics::Term;
 use semantics::numbers;
 use words::Word;
 ghost use mathlib.Core.Path.{_≡_};
-ghost use mathlib.Core.List.{_++_};
-ghost use Prim.Native.Nat.{_/_, _≤_, max, min};
-ghost use lib.ListN.{length, drop};
-ghost use Rattle.semantics.specs.Terms.{wordTermOf, termWord, truthNumber, termsIn, at as «term-number», bytesOf, sameOf, sortOf, knownOf};
-ghost use Rattle.semantics.specs.Steps.{makeOf};
+ghost use Prim.Native.Nat.{_/_, max, min};
+ghost use lib.ListN.{length};
+ghost use Rattle.semantics.specs.Terms.{wordTermOf, termWord, truthNumber, termsIn, at as «term-number», sameOf, sortOf, knownOf};
+ghost use Rattle.semantics.specs.Steps.{give, makeOf};
 ghost use Rattle.terms.specs.Search.{floorOf, findFrom};
-ghost use Rattle.terms.specs.Gives.{Gives, wiped};
+ghost use Rattle.terms.specs.Gives.{Makes};
 
 // The number of a term in a table that then has `count` terms; or a refusal, where it is not 0.
 pub struct Made {
@@ -73,8 +72,8 @@ pub fn truth_number(w: Word) -> u16
 pub fn sort(t: Term) -> u8
     ensures { λ r. ⌜ r ≡ sortOf t ⌝ }
 {
-    let k = t.kind;
-    match k {
+    let kind = t.kind;
+    match kind {
         numbers::TRUTH_TERM => numbers::TRUTH_TERM,
         numbers::WORD_TERM => numbers::WORD_TERM,
         numbers::FREE_TRUTH_TERM => numbers::TRUTH_TERM,
@@ -97,14 +96,18 @@ pub fn sort_at(table: &[u8], count: u16, i: u16) -> u8
     sort(term(table, count, i))
 }
 
-// A truth constant: 0 false, 1 true; 2 is anything else.
+// Whether a term is a truth constant, and which.
 fn constant(t: Term) -> u8
     ensures { λ r. ⌜ r ≡ knownOf t ⌝ }
 {
     if t.kind == numbers::TRUTH_TERM {
-        if t.a == 0 { 0 } else { 1 }
+        if t.a == 0 {
+            numbers::KNOWN_FALSE
+        } else {
+            numbers::KNOWN_TRUE
+        }
     } else {
-        2
+        numbers::UNKNOWN
     }
 }
 
@@ -148,8 +151,8 @@ fn larger(a: u16, b: u16) -> u16
 fn floor(t: Term) -> usize
     ensures { λ r. ⌜ r ≡ floorOf t ⌝ }
 {
-    let k = t.kind;
-    match k {
+    let kind = t.kind;
+    match kind {
         numbers::OPERATOR_TERM => larger(t.a, t.b) as usize + 1,
         numbers::CHOICE_TERM => larger(larger(t.a, t.b), t.c) as usize + 1,
         numbers::PROCEDURE_TERM => t.b as usize + 1,
@@ -197,31 +200,27 @@ pub fn find(table: &[u8], count: u16, t: Term) -> Found
     Found { is: false, at: 0 }
 }
 
-// A record at the start of the free tail.
-fn write(tail: &mut [u8], t: Term)
-    requires { ⌜ 8 ≤ length (now tail) ⌝ }
-    ensures { λ _. ⌜ now (tail .exit) ≡ bytesOf t ++ drop 8 (now (tail .entry)) ⌝ }
+// The number of a term that is there already: nothing is made. The table is lent so that the contract can speak of it.
+pub fn present(table: &[u8], count: u16, number: u16) -> Made
+    ensures { λ r. ⌜ Makes (give number) (now (table .entry)) count r (now (table .entry)) ⌝ }
 {
-    tail[0] = t.kind;
-    tail[1] = t.op;
-    tail[2] = (t.a % 256) as u8;
-    tail[3] = (t.a / 256) as u8;
-    tail[4] = (t.b % 256) as u8;
-    tail[5] = (t.b / 256) as u8;
-    tail[6] = (t.c % 256) as u8;
-    tail[7] = (t.c / 256) as u8;
+    Made {
+        refusal: 0,
+        count: count,
+        number: number,
+    }
 }
 
 // A term equal to one present takes that number; another takes the next, unless the table is full.
 pub fn make(table: &mut [u8], count: u16, t: Term) -> Made
-    ensures { λ r. ⌜ Gives (makeOf t) (now (table .entry)) count (r .refusal) (r .count) 0 (r .number) (now (table .exit)) ⌝ }
+    ensures { λ r. ⌜ Makes (makeOf t) (now (table .entry)) count r (now (table .exit)) ⌝ }
 {
-    let f = find(table, count, t);
-    if f.is {
+    let found = find(table, count, t);
+    if found.is {
         return Made {
             refusal: 0,
             count: count,
-            number: f.at,
+            number: found.at,
         };
     }
     if count >= numbers::TERM_LIMIT {
@@ -239,19 +238,10 @@ pub fn make(table: &mut [u8], count: u16, t: Term) -> Made
             number: 0,
         };
     }
-    write(&mut table[at..], t);
+    records::write(&mut table[at..], t.kind, t.op, t.a, t.b, t.c);
     Made {
         refusal: 0,
         count: count + 1,
         number: count,
-    }
-}
-
-// Zero from a place on.
-pub fn wipe(table: &mut [u8], from: usize)
-    ensures { λ _. ⌜ now (table .exit) ≡ wiped (now (table .entry)) from ⌝ }
-{
-    for k in from..table.len() {
-        table[k] = 0;
     }
 }

@@ -7,6 +7,7 @@ use Rattle.semantics.specs.Numbers.{leafLimit}
 use Rattle.semantics.specs.Terms.{blank}
 use Rattle.semantics.specs.Steps.{Make}
 use Rattle.terms.specs.Gives.{Gives}
+use Rattle.walk.specs.declared.Walked.{Walked}
 
 -- what stands in an array past its leaves
 abbrev pub noLeaf : Leaf
@@ -32,7 +33,7 @@ unfoldable pub leavesIn : List ℕ → ℕ → List Leaf
 leavesIn l zero = []
 leavesIn l (suc n) = leavesIn l n ++ (leafAt l n ∷ [])
 
--- A walk m from the table s with n terms gives the refusal r and h leaves in l, and leaves the table y with c terms.
-pub record Walks (m : Make (List Leaf)) (s : List ℕ) (n r c h : ℕ) (l y : List ℕ) : Type 0 where
-  pub gives : Gives m s n r c 0 (leavesIn l h) y
-  pub few : h ≤ leafLimit
+-- A walk m from the table s with n terms comes to r, with its leaves in l, and leaves the table y.
+pub record Walks (m : Make (List Leaf)) (s : List ℕ) (n : ℕ) (r : Walked) (l y : List ℕ) : Type 0 where
+  pub gives : Gives m s n (r .refusal) (r .count) 0 (leavesIn l (r .have)) y
+  pub few : r .have ≤ leafLimit

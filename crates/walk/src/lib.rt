@@ -13,7 +13,7 @@ ghost use lib.ListN.{length, getD};
 ghost use Rattle.semantics.specs.Numbers.{leafLimit, termLimit, falseNumber, trueNumber};
 ghost use Rattle.semantics.specs.Steps.{each};
 ghost use Rattle.semantics.specs.Walk.{leafOf, leftSideOf, rightSideOf, walkOf, orTargetOf, aimOf};
-ghost use Rattle.terms.specs.Gives.{Gives, from};
+ghost use Rattle.terms.specs.Gives.{Gives, Makes, from};
 ghost use Rattle.walk.specs.Leaves.{noLeaf, leafAt, leavesIn, Walks};
 
 // What stands in a list past its leaves.
@@ -60,40 +60,40 @@ pub struct Aimed {
 pub fn aim(table: &mut [u8], count: u16, f: u16, x: State) -> Aimed
     ensures { λ r. ⌜ (Gives (aimOf f x) (now (table .entry)) count (r .refusal) (r .count) 0 (record { leaves = from noLeaf (r .leaves) 0 (r .have); state = r .state }) (now (table .exit))) × (r .have ≤ leafLimit) ⌝ }
 {
-    let w = gather(table, count, f);
-    let leaves = w.leaves;
-    if w.refusal != 0 {
+    let gathered = gather(table, count, f);
+    let leaves = gathered.leaves;
+    if gathered.refusal != 0 {
         return Aimed {
-            refusal: w.refusal,
-            count: w.count,
-            have: w.have,
+            refusal: gathered.refusal,
+            count: gathered.count,
+            have: gathered.have,
             leaves: leaves,
             state: x,
         };
     }
-    let g = any_target(table, w.count, leaves, w.have);
-    if g.refusal != 0 {
+    let any = any_target(table, gathered.count, leaves, gathered.have);
+    if any.refusal != 0 {
         return Aimed {
-            refusal: g.refusal,
-            count: g.count,
-            have: w.have,
+            refusal: any.refusal,
+            count: any.count,
+            have: gathered.have,
             leaves: leaves,
             state: x,
         };
     }
-    let s = Standing {
+    let before = Standing {
         refusal: 0,
-        count: g.count,
+        count: any.count,
         state: x,
     };
-    let y = s.assert(table, g.number);
-    let z = y.state;
+    let asserted = before.assert(table, any.number);
+    let state = asserted.state;
     Aimed {
-        refusal: y.refusal,
-        count: y.count,
-        have: w.have,
+        refusal: asserted.refusal,
+        count: asserted.count,
+        have: gathered.have,
         leaves: leaves,
-        state: z,
+        state: state,
     }
 }
 
@@ -102,7 +102,7 @@ fn gather(table: &mut [u8], count: u16, f: u16) -> Gathered
     ensures { λ r. ⌜ (Gives (walkOf termLimit trueNumber f []) (now (table .entry)) count (r .refusal) (r .count) 0 (from noLeaf (r .leaves) 0 (r .have)) (now (table .exit))) × (r .have ≤ leafLimit) ⌝ }
 {
     let mut found: [u16; FOUND] = [0; FOUND];
-    let w = walk(
+    let walked = walk(
         table,
         &mut found,
         count,
@@ -111,11 +111,11 @@ fn gather(table: &mut [u8], count: u16, f: u16) -> Gathered
         f,
         0,
     );
-    let leaves = unpack(&found, w.have);
+    let leaves = unpack(&found, walked.have);
     Gathered {
-        refusal: w.refusal,
-        count: w.count,
-        have: w.have,
+        refusal: walked.refusal,
+        count: walked.count,
+        have: walked.have,
         leaves: leaves,
     }
 }
@@ -142,7 +142,7 @@ fn walk(
     have: usize,
 ) -> Walked
     requires { ⌜ (length (now leaves) ≡ 6 * leafLimit) × (have ≤ leafLimit) ⌝ }
-    ensures { λ r. ⌜ Walks (walkOf fuel path x (leavesIn (now (leaves .entry)) have)) (now (table .entry)) count (r .refusal) (r .count) (r .have) (now (leaves .exit)) (now (table .exit)) ⌝ }
+    ensures { λ r. ⌜ Walks (walkOf fuel path x (leavesIn (now (leaves .entry)) have)) (now (table .entry)) count r (now (leaves .exit)) (now (table .exit)) ⌝ }
 {
     if fuel == 0 {
         return Walked {
@@ -151,21 +151,30 @@ fn walk(
             have: have,
         };
     }
-    let t = terms::term(table, count, x);
-    if t.kind == numbers::CHOICE_TERM {
-        let l = left(table, leaves, count, fuel - 1, path, t.a, t.b, have);
-        if l.refusal != 0 {
-            return l;
+    let term = terms::term(table, count, x);
+    if term.kind == numbers::CHOICE_TERM {
+        let first = left(table, leaves, count, fuel - 1, path, term.a, term.b, have);
+        if first.refusal != 0 {
+            return first;
         }
-        return right(table, leaves, l.count, fuel - 1, path, t.a, t.c, l.have);
+        return right(
+            table,
+            leaves,
+            first.count,
+            fuel - 1,
+            path,
+            term.a,
+            term.c,
+            first.have,
+        );
     }
-    leaf(table, leaves, count, path, t, have)
+    leaf(table, leaves, count, path, term, have)
 }
 
 // A term met that is no choice: one leaf more, unless there are as many as a call may have.
 fn leaf(table: &[u8], leaves: &mut [u16], count: u16, path: u16, t: Term, have: usize) -> Walked
     requires { ⌜ (length (now leaves) ≡ 6 * leafLimit) × (have ≤ leafLimit) ⌝ }
-    ensures { λ r. ⌜ Walks (leafOf (leavesIn (now (leaves .entry)) have) path t) (now (table .entry)) count (r .refusal) (r .count) (r .have) (now (leaves .exit)) (now (table .entry)) ⌝ }
+    ensures { λ r. ⌜ Walks (leafOf (leavesIn (now (leaves .entry)) have) path t) (now (table .entry)) count r (now (leaves .exit)) (now (table .entry)) ⌝ }
 {
     if have < numbers::LEAF_LIMIT {
         push(leaves, have, path, t);
@@ -194,25 +203,25 @@ fn left(
     have: usize,
 ) -> Walked
     requires { ⌜ (length (now leaves) ≡ 6 * leafLimit) × (have ≤ leafLimit) ⌝ }
-    ensures { λ r. ⌜ Walks (leftSideOf (walkOf fuel) path a b (leavesIn (now (leaves .entry)) have)) (now (table .entry)) count (r .refusal) (r .count) (r .have) (now (leaves .exit)) (now (table .exit)) ⌝ }
+    ensures { λ r. ⌜ Walks (leftSideOf (walkOf fuel) path a b (leavesIn (now (leaves .entry)) have)) (now (table .entry)) count r (now (leaves .exit)) (now (table .exit)) ⌝ }
 {
-    let g = factory::and_of(table, count, path, a);
-    if g.refusal != 0 {
+    let guard = factory::and_of(table, count, path, a);
+    if guard.refusal != 0 {
         return Walked {
-            refusal: g.refusal,
-            count: g.count,
+            refusal: guard.refusal,
+            count: guard.count,
             have: have,
         };
     }
-    let k = terms::known(table, g.count, g.number);
-    if k == 0 {
+    let known = terms::known(table, guard.count, guard.number);
+    if known == numbers::KNOWN_FALSE {
         return Walked {
             refusal: 0,
-            count: g.count,
+            count: guard.count,
             have: have,
         };
     }
-    walk(table, leaves, g.count, fuel, g.number, b, have)
+    walk(table, leaves, guard.count, fuel, guard.number, b, have)
 }
 
 // The right side of a choice with test a, whose guard has the test's negation, unless that guard is false.
@@ -227,33 +236,26 @@ fn right(
     have: usize,
 ) -> Walked
     requires { ⌜ (length (now leaves) ≡ 6 * leafLimit) × (have ≤ leafLimit) ⌝ }
-    ensures { λ r. ⌜ Walks (rightSideOf (walkOf fuel) path a c (leavesIn (now (leaves .entry)) have)) (now (table .entry)) count (r .refusal) (r .count) (r .have) (now (leaves .exit)) (now (table .exit)) ⌝ }
+    ensures { λ r. ⌜ Walks (rightSideOf (walkOf fuel) path a c (leavesIn (now (leaves .entry)) have)) (now (table .entry)) count r (now (leaves .exit)) (now (table .exit)) ⌝ }
 {
-    let n = factory::not_of(table, count, a);
-    if n.refusal != 0 {
+    let negated = factory::not_of(table, count, a);
+    if negated.refusal != 0 {
         return Walked {
-            refusal: n.refusal,
-            count: n.count,
+            refusal: negated.refusal,
+            count: negated.count,
             have: have,
         };
     }
-    let g = factory::and_of(table, n.count, path, n.number);
-    if g.refusal != 0 {
-        return Walked {
-            refusal: g.refusal,
-            count: g.count,
-            have: have,
-        };
-    }
-    let k = terms::known(table, g.count, g.number);
-    if k == 0 {
-        return Walked {
-            refusal: 0,
-            count: g.count,
-            have: have,
-        };
-    }
-    walk(table, leaves, g.count, fuel, g.number, c, have)
+    left(
+        table,
+        leaves,
+        negated.count,
+        fuel,
+        path,
+        negated.number,
+        c,
+        have,
+    )
 }
 
 // One leaf more.
@@ -318,38 +320,34 @@ fn unpack(found: &[u16], n: usize) -> [Leaf; numbers::LEAF_LIMIT]
 
 // The or so far of the targets' guards, and one leaf more.
 fn or_target(table: &mut [u8], count: u16, g: u16, l: Leaf) -> Made
-    ensures { λ r. ⌜ Gives (orTargetOf g l) (now (table .entry)) count (r .refusal) (r .count) 0 (r .number) (now (table .exit)) ⌝ }
+    ensures { λ r. ⌜ Makes (orTargetOf g l) (now (table .entry)) count r (now (table .exit)) ⌝ }
 {
     let t = l.term;
     if t.kind == numbers::PROCEDURE_TERM {
         return factory::or_of(table, count, g, l.guard);
     }
-    Made {
-        refusal: 0,
-        count: count,
-        number: g,
-    }
+    terms::present(table, count, g)
 }
 
 // The or of the targets' guards, from the left starting at false.
 fn any_target(table: &mut [u8], count: u16, leaves: [Leaf; numbers::LEAF_LIMIT], n: usize) -> Made
-    ensures { λ r. ⌜ Gives (each orTargetOf falseNumber (from noLeaf leaves 0 n)) (now (table .entry)) count (r .refusal) (r .count) 0 (r .number) (now (table .exit)) ⌝ }
+    ensures { λ r. ⌜ Makes (each orTargetOf falseNumber (from noLeaf leaves 0 n)) (now (table .entry)) count r (now (table .exit)) ⌝ }
 {
-    let mut g: u16 = numbers::FALSE_NUMBER;
-    let mut c = count;
+    let mut guard: u16 = numbers::FALSE_NUMBER;
+    let mut made = count;
     let mut i: usize = 0;
     while i < n {
-        let j = or_target(table, c, g, leaf_of(leaves, i));
-        if j.refusal != 0 {
-            return j;
+        let more = or_target(table, made, guard, leaf_of(leaves, i));
+        if more.refusal != 0 {
+            return more;
         }
-        g = j.number;
-        c = j.count;
+        guard = more.number;
+        made = more.count;
         i += 1;
     }
     Made {
         refusal: 0,
-        count: c,
-        number: g,
+        count: made,
+        number: guard,
     }
 }

@@ -7,7 +7,7 @@ use Rattle.expressions.proofs.abort.Tie as tie
 
 returns : tie.Need-returns
 unfolding abortOf
-returns c = record { gives = search steps depth 12; low = search needs }
+returns c = rw (c .stop .ensures) (record { gives = search steps depth 12; low = search needs })
 
 pub abort-spec : {M : Type 1} → statement M
-abort-spec = tie.close (tie.spec (λ c κs. search needs) (λ c. search needs) returns)
+abort-spec = tie.close (tie.spec (λ c κs. search needs) (λ c κs. search needs) (λ c. search needs) returns)

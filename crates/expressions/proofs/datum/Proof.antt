@@ -7,7 +7,7 @@ use Rattle.expressions.proofs.datum.Tie as tie
 
 returns : tie.Need-returns
 unfolding datumOf
-returns c = record { gives = rw (← c .before .before .before .before .datum-word .ensures) (search steps depth 12); low = search needs }
+returns c = rw (c .given .ensures) (record { gives = rw (← c .before .before .before .before .datum-word .ensures) (search steps depth 12); low = search needs })
 
 returns-2 : tie.Need-returns-2
 unfolding datumOf

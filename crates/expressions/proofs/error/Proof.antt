@@ -7,7 +7,7 @@ use Rattle.expressions.proofs.error.Tie as tie
 
 returns : tie.Need-returns
 unfolding errorOf
-returns c = record { gives = search steps depth 12; low = search needs }
+returns c = rw (c .stop .ensures) (record { gives = search steps depth 12; low = search needs })
 
 pub error-spec : {M : Type 1} → statement M
-error-spec = tie.close (tie.spec (λ c κs. search needs) (λ c. search needs) returns)
+error-spec = tie.close (tie.spec (λ c κs. search needs) (λ c κs. search needs) (λ c. search needs) returns)

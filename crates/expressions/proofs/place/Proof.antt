@@ -1,4 +1,4 @@
--- `expressions::place` meets its contract. The invariant: place k from e on is the place asked for. The measure is k. Assumes nothing.
+-- `expressions::place` meets its contract. The invariant: the place that is left, along the chain that is left, is the place asked for. The measure is how many are left. Assumes nothing.
 use borrow.Author.Needs.{needs}
 use mathlib.Core.Path.{_≡_, refl}
 use Rattle.semantics.specs.Terms.{termsIn}
@@ -8,10 +8,10 @@ use Rattle.expressions.proofs.place.Statement.{statement}
 use Rattle.expressions.proofs.place.Tie as tie
 
 abbrev Inv-loop : tie.InvT-loop
-Inv-loop table count p env e₀ k₀ e k = placeOf k e (termsIn table count) ≡ placeOf p env (termsIn table count)
+Inv-loop table count p env chain₀ left₀ chain left = placeOf left chain (termsIn table count) ≡ placeOf p env (termsIn table count)
 
 abbrev μ-loop : tie.MeasureT-loop
-μ-loop table count p env e₀ k₀ e k = k
+μ-loop table count p env chain₀ left₀ chain left = left
 
 pub place-spec : {M : Type 1} → statement M
 place-spec =

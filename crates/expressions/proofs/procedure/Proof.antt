@@ -7,7 +7,7 @@ use Rattle.expressions.proofs.procedure.Tie as tie
 
 returns : tie.Need-returns
 unfolding procedureOf
-returns c = record { gives = search steps depth 12; low = search needs }
+returns c = rw (c .given .ensures) (record { gives = search steps depth 12; low = search needs })
 
 pub procedure-spec : {M : Type 1} → statement M
-procedure-spec = tie.close (tie.spec (λ c κs. search needs) (λ c. search needs) returns)
+procedure-spec = tie.close (tie.spec (λ c κs. search needs) (λ c κs. search needs) (λ c. search needs) returns)

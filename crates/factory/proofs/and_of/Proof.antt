@@ -8,7 +8,12 @@ use Rattle.factory.proofs.and_of.Tie as tie
 pub and-of-spec : {M : Type 1} → statement M
 unfolding andOf
 and-of-spec =
-    tie.close
-    (tie.spec (λ c κs. search needs) (λ c. search needs) (λ c. search steps depth 12) (λ c. search needs) (λ c. search steps depth 12) (λ c κs. search needs)
-    (λ c. search needs) (λ c. search steps depth 12) (λ c. search needs) (λ c. search steps depth 12) (λ c. search needs) (λ c. search steps depth 12)
+    tie.close (tie.spec
+    (λ c κs. search needs)
+    (λ c κs. search needs) (λ c. search needs) (λ c. search steps depth 12)
+    (λ c κs. search needs) (λ c. search needs) (λ c. search steps depth 12)
+    (λ c κs. search needs)
+    (λ c κs. search needs) (λ c. search needs) (λ c. search steps depth 12)
+    (λ c κs. search needs) (λ c. search needs) (λ c. search steps depth 12)
+    (λ c κs. search needs) (λ c. search needs) (λ c. search steps depth 12)
     (λ c κs. search needs) (λ c. search needs) (λ c. search steps depth 12))

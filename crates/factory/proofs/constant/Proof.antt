@@ -8,4 +8,8 @@ use Rattle.factory.proofs.constant.Tie as tie
 pub constant-spec : {M : Type 1} → statement M
 unfolding constantOf
 constant-spec =
-    tie.close (tie.spec (λ c κs. search needs) (λ c κs. search needs) (λ c. search steps depth 12) (λ c κs. search needs) (λ c κs. search needs) (λ c. search needs) (λ c. search steps depth 12))
+    tie.close (tie.spec
+    (λ c κs. search needs)
+    (λ c κs. search needs)
+    (λ c κs. search needs) (λ c. search needs) (λ c. search steps depth 12)
+    (λ c κs. search needs) (λ c. search needs) (λ c. search steps depth 12))

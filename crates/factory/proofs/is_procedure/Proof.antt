@@ -8,6 +8,8 @@ use Rattle.factory.proofs.is_procedure.Tie as tie
 pub is-procedure-spec : {M : Type 1} → statement M
 unfolding isProcedureOf
 is-procedure-spec =
-    tie.close
-    (tie.spec (λ c κs. search needs) (λ c κs. search needs) (λ c. search needs) (λ c. search steps depth 12) (λ c. search needs) (λ c. search steps depth 12)
-    (λ c. search needs) (λ c. search steps depth 12))
+    tie.close (tie.spec
+    (λ c κs. search needs)
+    (λ c κs. search needs) (λ c. search needs) (λ c. search steps depth 12)
+    (λ c κs. search needs) (λ c. search needs) (λ c. search steps depth 12)
+    (λ c κs. search needs) (λ c. search needs) (λ c. search steps depth 12))

@@ -8,6 +8,8 @@ use Rattle.factory.proofs.not_of.Tie as tie
 pub not-of-spec : {M : Type 1} → statement M
 unfolding notOf
 not-of-spec =
-    tie.close
-    (tie.spec (λ c κs. search needs) (λ c. search needs) (λ c. search steps depth 12) (λ c. search needs) (λ c. search steps depth 12) (λ c κs. search needs)
-    (λ c. search needs) (λ c. search steps depth 12))
+    tie.close (tie.spec
+    (λ c κs. search needs)
+    (λ c κs. search needs) (λ c. search needs) (λ c. search steps depth 12)
+    (λ c κs. search needs) (λ c. search needs) (λ c. search steps depth 12)
+    (λ c κs. search needs) (λ c. search needs) (λ c. search steps depth 12))

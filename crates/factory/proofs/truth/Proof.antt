@@ -8,6 +8,8 @@ use Rattle.factory.proofs.truth.Tie as tie
 pub truth-spec : {M : Type 1} → statement M
 unfolding truthOf
 truth-spec =
-    tie.close
-    (tie.spec (λ c κs. search needs) (λ c κs. search needs) (λ c. search needs) (λ c. search steps depth 12) (λ c. search needs) (λ c. search steps depth 12)
-    (λ c. search needs) (λ c. search steps depth 12))
+    tie.close (tie.spec
+    (λ c κs. search needs)
+    (λ c κs. search needs) (λ c. search needs) (λ c. search steps depth 12)
+    (λ c κs. search needs) (λ c. search needs) (λ c. search steps depth 12)
+    (λ c κs. search needs) (λ c. search needs) (λ c. search steps depth 12))

@@ -8,7 +8,7 @@ use Rattle.merge.proofs.merge_blank.Statement.{statement}
 use Rattle.merge.proofs.merge_blank.Tie as tie
 
 abbrev Inv-loop : tie.InvT-loop
-Inv-loop n pass table₀ a₀ i₀ table a i = ((length table ≡ length table₀) × (i ≤ n)) × Blanks pass (a₀ .refusal) (a₀ .state, a₀ .found) table₀ (a₀ .count) i (a .refusal) (a .count) (a .state, a .found) table
+Inv-loop n pass table₀ a₀ i₀ table a i = ((length table ≡ length table₀) × (i ≤ n)) × Blanks pass (a₀ .refusal) (a₀ .state, a₀ .folded) table₀ (a₀ .count) i (a .refusal) (a .count) (a .state, a .folded) table
 
 abbrev μ-loop : tie.MeasureT-loop
 μ-loop n pass table₀ a₀ i₀ table a i = n - i

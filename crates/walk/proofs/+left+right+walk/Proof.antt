@@ -1,5 +1,5 @@
 -- The walk: `walk::walk` and its two sides `left` and `right` meet their contracts, following the text of their definitions. The measure is the fuel,
--- twice over, and one more on the way into a side. Assumes nothing.
+-- three times over, one more on the way into a left side, and two more on the way into a right one, which is walked as a left one. Assumes nothing.
 use borrow.Author.Needs.{needs}
 use Prim.Native.Nat.{ℕ, _+_, _*_, _<_}
 use Rattle.semantics.specs.Walk.{leftSideOf, rightSideOf, sideOf, sidesOf, nodeOf}
@@ -25,13 +25,13 @@ use Rattle.walk.proofs.+left+right+walk.{statement}
 use Rattle.walk.proofs.+left+right+walk.Tie.{close}
 
 abbrev μ-left : Measures 2 left-kinds.ps ℕ
-μ-left κs a = 2 * a .1 .1 .1 .0 + 1
+μ-left κs a = 3 * a .1 .1 .1 .0 + 1
 
 abbrev μ-right : Measures 2 right-kinds.ps ℕ
-μ-right κs a = 2 * a .1 .1 .1 .0 + 1
+μ-right κs a = 3 * a .1 .1 .1 .0 + 2
 
 abbrev μ-walk : Measures 2 walk-kinds.ps ℕ
-μ-walk κs a = 2 * a .1 .1 .1 .0
+μ-walk κs a = 3 * a .1 .1 .1 .0
 
 abbrev left-at : ℕ → In 2 left-kinds.ps
 left-at t = and 2 left-kinds.ps (is 2 left-kinds.ps μ-left t) left.Pre
@@ -56,7 +56,7 @@ abbrev left-claims : ℕ → left-lts.Claims
 left-claims t = (and-of-reads.Asked, and-of-reads.Learnt, known-reads.Asked, known-reads.Learnt, walk-below t, walk.Post)
 
 abbrev right-claims : ℕ → right-lts.Claims
-right-claims t = (not-of-reads.Asked, not-of-reads.Learnt, and-of-reads.Asked, and-of-reads.Learnt, known-reads.Asked, known-reads.Learnt, walk-below t, walk.Post)
+right-claims t = (not-of-reads.Asked, not-of-reads.Learnt, left-below t, left.Post)
 
 abbrev walk-claims : ℕ → walk-lts.Claims
 walk-claims t = (term-reads.Asked, term-reads.Learnt, left-below t, left.Post, right-below t, right.Post, leaf-reads.Asked, leaf-reads.Learnt)
@@ -101,41 +101,21 @@ right-same-length : (t : ℕ) → right-lts.Need-same-length (right-claims t) (r
 right-same-length t c = search needs
 
 right-returns : (t : ℕ) → right-lts.Need-returns (right-claims t) (right-at t) right.Post
-unfolding rightSideOf sideOf
+unfolding rightSideOf
 right-returns t c = record { gives = search steps depth 12; few = search needs }
 
-right-and-of-requires : (t : ℕ) → right-lts.Need-and-of-requires (right-claims t) (right-at t) right.Post
-right-and-of-requires t c κs = search needs
+right-left-requires : (t : ℕ) → right-lts.Need-left-requires (right-claims t) (right-at t) right.Post
+right-left-requires t c κs = search needs
 
 right-same-length-2 : (t : ℕ) → right-lts.Need-same-length-2 (right-claims t) (right-at t) right.Post
 right-same-length-2 t c = search needs
 
-right-returns-2 : (t : ℕ) → right-lts.Need-returns-2 (right-claims t) (right-at t) right.Post
-unfolding rightSideOf sideOf
-right-returns-2 t c = record { gives = search steps depth 12; few = search needs }
-
-right-known-requires : (t : ℕ) → right-lts.Need-known-requires (right-claims t) (right-at t) right.Post
-right-known-requires t c κs = search needs
-
 right-same-length-3 : (t : ℕ) → right-lts.Need-same-length-3 (right-claims t) (right-at t) right.Post
 right-same-length-3 t c = search needs
 
-right-returns-3 : (t : ℕ) → right-lts.Need-returns-3 (right-claims t) (right-at t) right.Post
-unfolding rightSideOf sideOf
-right-returns-3 t c = record { gives = search steps depth 12; few = search needs }
-
-right-walk-requires : (t : ℕ) → right-lts.Need-walk-requires (right-claims t) (right-at t) right.Post
-right-walk-requires t c κs = search needs
-
-right-same-length-4 : (t : ℕ) → right-lts.Need-same-length-4 (right-claims t) (right-at t) right.Post
-right-same-length-4 t c = search needs
-
-right-same-length-5 : (t : ℕ) → right-lts.Need-same-length-5 (right-claims t) (right-at t) right.Post
-right-same-length-5 t c = search needs
-
-right-returns-4 : (t : ℕ) → right-lts.Need-returns-4 (right-claims t) (right-at t) right.Post
-unfolding rightSideOf sideOf
-right-returns-4 t c = record { gives = search steps depth 12; few = search needs }
+right-returns-2 : (t : ℕ) → right-lts.Need-returns-2 (right-claims t) (right-at t) right.Post
+unfolding rightSideOf leftSideOf
+right-returns-2 t c = record { gives = search steps depth 12; few = search needs }
 
 walk-returns : (t : ℕ) → walk-lts.Need-returns (walk-claims t) (walk-at t) walk.Post
 unfolding nodeOf sidesOf
@@ -209,16 +189,10 @@ pub +left+right+walk-spec : {M : Type 1} → statement M
     (right-not-of-requires t)
     (right-same-length t)
     (right-returns t)
-    (right-and-of-requires t)
+    (right-left-requires t)
     (right-same-length-2 t)
-    (right-returns-2 t)
-    (right-known-requires t)
     (right-same-length-3 t)
-    (right-returns-3 t)
-    (right-walk-requires t)
-    (right-same-length-4 t)
-    (right-same-length-5 t)
-    (right-returns-4 t))
+    (right-returns-2 t))
     λ t. walk-lts.spec (walk-claims t)
     (walk-at t)
     walk.Post

@@ -15,10 +15,10 @@ use Rattle.walk.proofs.any_target.Statement.{statement}
 use Rattle.walk.proofs.any_target.Tie as tie
 
 abbrev Inv-loop : tie.InvT-loop
-Inv-loop table₀ count leaves n g₀ c₀ i₀ table g c i = (length table ≡ length table₀) × Leads (each orTargetOf falseNumber (from noLeaf leaves 0 n)) table₀ c₀ 0 (each orTargetOf g (from noLeaf leaves i (n - i))) table c
+Inv-loop table₀ count leaves n guard₀ made₀ i₀ table guard made i = (length table ≡ length table₀) × Leads (each orTargetOf falseNumber (from noLeaf leaves 0 n)) table₀ made₀ 0 (each orTargetOf guard (from noLeaf leaves i (n - i))) table made
 
 abbrev μ-loop : tie.MeasureT-loop
-μ-loop table₀ count leaves n g₀ c₀ i₀ table g c i = n - i
+μ-loop table₀ count leaves n guard₀ made₀ i₀ table guard made i = n - i
 
 loop-holds : tie.Need-loop-holds Inv-loop μ-loop
 loop-holds c = (search needs, rw sub-zero (leads-start _ _ _))

@@ -7,4 +7,4 @@ use Rattle.walk.proofs.or_target.Tie as tie
 
 pub or-target-spec : {M : Type 1} → statement M
 unfolding orTargetOf
-or-target-spec = tie.close (tie.spec (λ c κs. search needs) (λ c. search needs) (λ c. search steps depth 12) (λ c. search steps depth 12))
+or-target-spec = tie.close (tie.spec (λ c κs. search needs) (λ c. search needs) (λ c. search steps depth 12) (λ c κs. search needs) (λ c. search needs) (λ c. search steps depth 12))

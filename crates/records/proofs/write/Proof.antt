@@ -1,12 +1,12 @@
--- `terms::write` meets its contract: eight stores are the record before the rest. Assumes nothing.
+-- `records::write` meets its contract: eight stores are the record before the rest. Assumes nothing.
 use borrow.Author.Needs.{needs}
 use native.Mathlib.Omega.{arith}
 use denote.Ref.{now}
 use lib.ListN.{length-set}
 use lib.Seq.{sets-eq}
-use Rattle.semantics.specs.Terms.{bytesOf}
-use Rattle.terms.proofs.write.Statement.{statement}
-use Rattle.terms.proofs.write.Tie as tie
+use Rattle.semantics.specs.Records.{recordBytes}
+use Rattle.records.proofs.write.Statement.{statement}
+use Rattle.records.proofs.write.Tie as tie
 
 slice-write-tail-2 : tie.Need-slice-write-tail-2
 slice-write-tail-2 c = simp length-set (omega arith)
@@ -30,8 +30,7 @@ slice-write-tail-8 : tie.Need-slice-write-tail-8
 slice-write-tail-8 c = simp length-set (omega arith)
 
 returns : tie.Need-returns
-unfolding bytesOf
-returns c = sets-eq (bytesOf (c .before .before .before .before .before .before .args .t)) (now (c .before .before .before .before .before .before .args .tail)) 0 (c .before .before .before .before .before .before .pre)
+returns c = let x = c .args in sets-eq (recordBytes (x .kind) (x .op) (x .p) (x .q) (x .r)) (now (x .tail)) 0 (c .pre)
 
 pub write-spec : {M : Type 1} → statement M
 write-spec =

@@ -1,20 +1,20 @@
--- `terms::wipe` meets its contract. The invariant: wiped from here on, the table is what it is to be. The measure is what is left of it.
+-- `records::wipe` meets its contract. The invariant: wiped from here on, the bytes are what they are to be. The measure is what is left of them.
 -- Assumes nothing.
 use borrow.Author.Needs.{needs}
-use Rattle.terms.proofs.Wiped.{wiped-more, wiped-done}
+use Rattle.records.proofs.Wiped.{wiped-more, wiped-done}
 use mathlib.Core.Path.{_≡_, sym, _∙_}
 use Prim.Native.Nat.{_-_}
 use native.Mathlib.Omega.{arith}
 use lib.ListN.{length}
-use Rattle.terms.specs.Gives.{wiped}
-use Rattle.terms.proofs.wipe.Statement.{statement}
-use Rattle.terms.proofs.wipe.Tie as tie
+use Rattle.records.specs.Wiped.{wiped}
+use Rattle.records.proofs.wipe.Statement.{statement}
+use Rattle.records.proofs.wipe.Tie as tie
 
 abbrev Inv-loop : tie.InvT-loop
-Inv-loop table₀ from k₀ k-end table k = ((length table ≡ length table₀) × (k-end ≡ length table₀)) × (wiped table k ≡ wiped table₀ from)
+Inv-loop s₀ from k₀ k-end s k = ((length s ≡ length s₀) × (k-end ≡ length s₀)) × (wiped s k ≡ wiped s₀ from)
 
 abbrev μ-loop : tie.MeasureT-loop
-μ-loop table₀ from k₀ k-end table k = k-end - k
+μ-loop s₀ from k₀ k-end s k = k-end - k
 
 loop-again : tie.Need-loop-again Inv-loop μ-loop
 loop-again c = (search needs, wiped-more _ _ (omega arith) ∙ c .before .loop .inv .1)
