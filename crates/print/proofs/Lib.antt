@@ -1,5 +1,4 @@
 pub mod Taken
-pub mod Lines
 pub mod Told
 pub mod Written
 pub mod Case

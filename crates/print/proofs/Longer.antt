@@ -21,7 +21,8 @@ use Rattle.semantics.specs.Opening.{openOf}
 use Rattle.semantics.specs.Fits.{fitsOf}
 use Rattle.semantics.specs.Evaluate.{refusedBy, evaluateOf}
 use Rattle.semantics.specs.Print.{printAllowance, inputSize, inputBytes, inputsFrom, inputZeroed, inputsWhole, evaluationLines, openingLines, printedOf}
-use Rattle.print.specs.Written.{linesText, writtenOf}
+use Rattle.lines.specs.Lines.{linesText}
+use Rattle.print.specs.Written.{writtenOf}
 use Rattle.print.specs.Read.{Read}
 
 -- ---- a rule that is too long is refused, whatever its bytes

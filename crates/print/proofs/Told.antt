@@ -24,7 +24,7 @@ use Rattle.typing.proofs.Does.{Post, did, not-did}
 use Rattle.soundness.proofs.Evaluation.{eval-does}
 use Rattle.sessions.proofs.Facts.{fitting}
 use Rattle.typing.proofs.Ruled.{ruled}
-use Rattle.print.specs.Room.{Told}
+use Rattle.lines.specs.Room.{Told}
 
 answer-told : (r : Result) (d n : ℕ) → n ≤ termLimit → Told (answerOf r d) n
 unfolding if_then_else_

@@ -10,10 +10,14 @@ use borrow.Author.Tests.{eq-eqb, ne-eqb}
 use Rattle.notation.specs.Notation.{with, if_then_else_, if_equals_then_else_, unless_then_else_, every}
 use Rattle.semantics.specs.declared.Input.{Input}
 use Rattle.semantics.specs.declared.Opened.{Opened}
+use Rattle.semantics.specs.declared.Session.{Session}
+use Rattle.semantics.specs.declared.Evaluated.{Evaluated}
 use Rattle.semantics.specs.Numbers.{inputCount, mostTable, badInput}
 use Rattle.semantics.specs.Opening.{badTableSize, inputTaken, openOf}
-use Rattle.semantics.specs.Print.{inputBytes, refusal, inputsFrom, inputsWhole, evaluationLines, openingLines, printedOf}
-use Rattle.print.specs.Written.{lineText, linesText, writtenOf}
+use Rattle.semantics.specs.Evaluate.{evaluateOf}
+use Rattle.semantics.specs.Print.{inputBytes, refusal, termLines, answerLines, printAllowance, inputsFrom, inputsWhole, evaluationLines, openingLines, printedOf}
+use Rattle.lines.specs.Lines.{lineText, linesText}
+use Rattle.print.specs.Written.{writtenOf}
 use Rattle.text.specs.Appends.{Writes}
 use Rattle.print.proofs.Taken.{inputs-length}
 
@@ -45,3 +49,10 @@ module _ (s : List ℕ) {y : List ℕ} {r : ℕ} {w : Bool} (ew : w ≡ inputsWh
     pub written-evaluated : x .refusal ≡ 0 → Writes (linesText (evaluationLines (take (length s - inputBytes) (drop inputBytes s)) (x .session) t)) y r → Writes (writtenOf s) y r
     unfolding writtenOf printedOf openingLines with if_then_else_ if_equals_then_else_
     written-evaluated k p = rw (← ew, h, ← ex, ← eo, eq-eqb _ _ k) (rw (take-all (length s - inputBytes) (drop inputBytes s) (rw (length-drop inputBytes s) (omega arith))) at p)
+
+-- a rule evaluated, and its lines
+pub evaluated-lines : (rule : List ℕ) (x : Session) (s : List ℕ) {v : Evaluated} {y : List ℕ} → _≡_ {A = Evaluated × List ℕ} (v, y) (evaluateOf rule printAllowance x s)
+    → {z : List ℕ} {r : ℕ} → Writes (linesText (answerLines (v .answer) (v .session .count) (termLines y (x .count) (v .session .count - x .count)))) z r
+    → Writes (linesText (evaluationLines rule x s)) z r
+unfolding evaluationLines
+evaluated-lines rule x s e p = rw (← e) p

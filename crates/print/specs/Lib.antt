@@ -1,3 +1,2 @@
 pub mod Written
-pub mod Room
 pub mod Read

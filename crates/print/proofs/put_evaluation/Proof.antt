@@ -1,6 +1,6 @@
 -- `put_evaluation` meets its contract. Assumes nothing.
 use Rattle.print.proofs.Told.{evaluation-told}
-use Rattle.print.proofs.Lines.{evaluated-lines}
+use Rattle.print.proofs.Written.{evaluated-lines}
 use borrow.Author.Needs.{needs}
 use Rattle.print.proofs.put_evaluation.Statement.{statement}
 use Rattle.print.proofs.put_evaluation.Tie as tie

@@ -1,8 +1,8 @@
--- `put_refusal` meets its contract. Assumes nothing.
+-- `lines::put_refusal` meets its contract. Assumes nothing.
 use borrow.Author.Needs.{needs}
-use Rattle.print.proofs.Lines.{refused-line}
-use Rattle.print.proofs.put_refusal.Statement.{statement}
-use Rattle.print.proofs.put_refusal.Tie as tie
+use Rattle.lines.proofs.Lines.{refused-line}
+use Rattle.lines.proofs.put_refusal.Statement.{statement}
+use Rattle.lines.proofs.put_refusal.Tie as tie
 
 returns : tie.Need-returns
 returns c = refused-line _ (search needs) (c .put-line .ensures)

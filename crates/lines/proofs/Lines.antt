@@ -9,16 +9,13 @@ use Rattle.semantics.specs.declared.Term.{Term}
 use Rattle.semantics.specs.declared.State.{State}
 use Rattle.semantics.specs.declared.Answer.{Answer}
 use Rattle.semantics.specs.declared.Answer.the-variants.{Out, Halt, Refused}
-use Rattle.semantics.specs.declared.Session.{Session}
-use Rattle.semantics.specs.declared.Evaluated.{Evaluated}
-use Rattle.semantics.specs.Evaluate.{evaluateOf}
 use Rattle.semantics.specs.Numbers.{termLimit}
 use Rattle.semantics.specs.Terms.{termAt}
-use Rattle.semantics.specs.Print.{Line, refusal, termLine, termLines, answerLines, printAllowance, evaluationLines}
+use Rattle.semantics.specs.Print.{Line, refusal, termLine, termLines, answerLines}
 use Rattle.text.specs.Text.{ascii, joined, numbersText}
-use Rattle.print.specs.Written.{lineText, linesText}
+use Rattle.lines.specs.Lines.{lineText, linesText}
 use Rattle.text.specs.Appends.{Appends, Writes}
-use Rattle.print.specs.Room.{lineBytes, Told}
+use Rattle.lines.specs.Room.{lineBytes, Told}
 use Rattle.text.proofs.Adding.{both-added, written}
 
 -- ---- lines of terms
@@ -89,9 +86,3 @@ pub answered-refused : (a : Answer) {k : ℕ} (n : ℕ) (ls : List Line) {y : Li
     → Writes (linesText (answerLines a n ls)) y r
 unfolding answerLines linesText
 answered-refused a n ls ea p = rw (ea, append-nil) p
-
-pub evaluated-lines : (rule : List ℕ) (x : Session) (s : List ℕ) {v : Evaluated} {y : List ℕ} → _≡_ {A = Evaluated × List ℕ} (v, y) (evaluateOf rule printAllowance x s)
-    → {z : List ℕ} {r : ℕ} → Writes (linesText (answerLines (v .answer) (v .session .count) (termLines y (x .count) (v .session .count - x .count)))) z r
-    → Writes (linesText (evaluationLines rule x s)) z r
-unfolding evaluationLines
-evaluated-lines rule x s e p = rw (← e) p

@@ -1,9 +1,9 @@
--- `put_answer` meets its contract. Assumes nothing.
+-- `lines::put_answer` meets its contract. Assumes nothing.
 use native.Mathlib.Omega.{arith}
-use Rattle.print.proofs.Lines.{told-out, told-halt, answered-out, answered-halt, answered-refused}
+use Rattle.lines.proofs.Lines.{told-out, told-halt, answered-out, answered-halt, answered-refused}
 use borrow.Author.Needs.{needs}
-use Rattle.print.proofs.put_answer.Statement.{statement}
-use Rattle.print.proofs.put_answer.Tie as tie
+use Rattle.lines.proofs.put_answer.Statement.{statement}
+use Rattle.lines.proofs.put_answer.Tie as tie
 
 put-terms-requires : tie.Need-put-terms-requires
 put-terms-requires c κs = omega (arith, told-out _ _ (c .before .before .before .before .before .before .before .before .before .pre) (c .before .before .before .before .before .before .answer .given .1))

@@ -1,12 +1,12 @@
--- `put_terms` meets its contract. The invariant: the lines of the terms before i stand in the buffer, which is as long as it was. The measure
+-- `lines::put_terms` meets its contract. The invariant: the lines of the terms before i stand in the buffer, which is as long as it was. The measure
 -- is what is left of the terms. Assumes nothing.
 use mathlib.Core.Path.{_≡_}
 use Prim.Native.Nat.{_-_}
 use lib.ListN.{length}
 use borrow.Author.Needs.{needs}
-use Rattle.print.proofs.Lines.{Shown, none-shown, one-shown, all-shown}
-use Rattle.print.proofs.put_terms.Statement.{statement}
-use Rattle.print.proofs.put_terms.Tie as tie
+use Rattle.lines.proofs.Lines.{Shown, none-shown, one-shown, all-shown}
+use Rattle.lines.proofs.put_terms.Statement.{statement}
+use Rattle.lines.proofs.put_terms.Tie as tie
 
 abbrev Inv-loop : tie.InvT-loop
 Inv-loop out₀ at table from to end₀ i₀ out end i = (length out ≡ length out₀) × Shown out₀ at table from to out end i

@@ -1,9 +1,9 @@
--- `put_term` meets its contract. Assumes nothing.
+-- `lines::put_term` meets its contract. Assumes nothing.
 use borrow.Author.Needs.{needs}
 use Rattle.semantics.specs.Print.{termLine}
-use Rattle.print.specs.Written.{lineText}
-use Rattle.print.proofs.put_term.Statement.{statement}
-use Rattle.print.proofs.put_term.Tie as tie
+use Rattle.lines.specs.Lines.{lineText}
+use Rattle.lines.proofs.put_term.Statement.{statement}
+use Rattle.lines.proofs.put_term.Tie as tie
 
 returns : tie.Need-returns
 unfolding lineText termLine
