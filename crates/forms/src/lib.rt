@@ -37,8 +37,10 @@ pub const ANSWER: usize = 10;
 
 pub const READING: usize = 2 * words::BYTES;
 
-// Where a session's count, S, T, accepted rules and halted mark stand.
-const COUNT: u32 = INPUTS as u32;
+// Where a session's count, S, T, accepted rules and halted mark stand, after the inputs.
+const REST: u8 = INPUTS as u8;
+
+const COUNT: u32 = REST as u32;
 
 const ASSUMED: u32 = COUNT + 2;
 
@@ -261,14 +263,7 @@ pub fn put_session(s: &mut [u8], x: Session)
     let inputs = x.inputs;
     let state = x.state;
     put_inputs(s, inputs);
-    put_four(
-        s,
-        COUNT as u8,
-        x.count,
-        state.assumed,
-        state.asserted,
-        x.accepted,
-    );
+    put_four(s, REST, x.count, state.assumed, state.asserted, x.accepted);
     put(s, HALTED, bit_of(x.halted));
     put(s, HALTED + 1, 0);
 }

@@ -1,11 +1,11 @@
 use crate::records::{records, Record};
-use crate::words::shape;
+use crate::words::{shape, Word};
 
 /// One record of a rule. Places are counted from the nearest binding.
 #[derive(Clone, Copy)]
 pub enum Expression {
     Truth(bool),
-    Word(u16),
+    Word(Word),
     Variable(u16),
     Procedure { body: u16 },
     Call { procedure: u16, argument: u16 },

@@ -1,5 +1,5 @@
 use crate::records::Record;
-use crate::words::{on_words, shape, Value, AND, IS_PROCEDURE, IS_WORD, NOT, OR, TRUTH};
+use crate::words::{on_words, shape, Value, Word, AND, IS_PROCEDURE, IS_WORD, NOT, OR, TRUTH};
 use std::collections::hash_map::{Entry, HashMap};
 use std::hash::{BuildHasherDefault, Hasher};
 
@@ -21,7 +21,7 @@ pub const NO_BINDING: u16 = 65_535;
 #[derive(Clone, Copy, PartialEq, Eq, Debug)]
 pub enum Term {
     Truth(bool),
-    Word(u16),
+    Word(Word),
     FreeTruth(u16),
     FreeWord(u16),
     Operator {
@@ -106,7 +106,7 @@ impl Term {
     }
 
     /// The word of a word constant.
-    fn word(self) -> Option<u16> {
+    fn word(self) -> Option<Word> {
         match self {
             Term::Word(word) => Some(word),
             _ => None,
