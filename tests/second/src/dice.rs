@@ -2,10 +2,16 @@
 
 use crate::records::Record;
 use crate::session::Input;
-use crate::words::{Word, WIDTH};
+use crate::words::{halves, Word, WIDTH};
 
 pub fn record(kind: u8, op: u8, a: u16, b: u16, c: u16) -> Record {
     Record { kind, op, a, b, c }
+}
+
+/// A word's record.
+pub fn datum(word: Word) -> Record {
+    let (low, high) = halves(word);
+    record(1, 2, low, high, 0)
 }
 
 pub fn rule(records: &[Record]) -> Vec<u8> {
@@ -122,7 +128,7 @@ impl Dice {
         records.push(record(2, 0, p, 0, 0));
         let grown = match self.below(if size > 1 { 14 } else { 6 }) {
             0 => record(1, self.below(2) as u8, 0, 0, 0),
-            1 => record(1, 2, self.word(), 0, 0),
+            1 => datum(self.word()),
             2 => record(2, 0, p, 0, 0),
             3 => self.operator(p, q),
             4 => record(4, 0, p, q, 0),

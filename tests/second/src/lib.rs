@@ -21,7 +21,7 @@ pub use read::{read, ResultOf};
 pub use records::{records, Record};
 pub use run::run;
 pub use session::{Input, Session};
-pub use words::{Word, WORD_BYTES};
+pub use words::{Word, WIDTH, WORD_BYTES};
 
 /// What reading or a plain run answers. A procedure is its record number.
 #[derive(Clone, Copy, PartialEq, Eq, Debug)]

@@ -2,6 +2,17 @@ pub type Word = u16;
 pub const WIDTH: Word = Word::BITS as Word;
 pub const WORD_BYTES: usize = Word::BITS as usize / 8;
 
+/// A word in two fields of a record or a term, the low half first.
+pub fn halves(word: Word) -> (u16, u16) {
+    let word = u64::from(word);
+    (word as u16, (word >> 16) as u16)
+}
+
+/// The word in two fields, or nothing if a word does not take what the second has.
+pub fn joined(low: u16, high: u16) -> Option<Word> {
+    Word::try_from(u64::from(high) << 16 | u64::from(low)).ok()
+}
+
 pub const IS_FALSE: u8 = 13;
 pub const IS_WORD: u8 = 14;
 pub const IS_PROCEDURE: u8 = 15;

@@ -1,7 +1,7 @@
 //! Byte forms of wrong lengths, or with a mark or a zero that is another number: each is refused by its number, in the
 //! operation's order of tests.
 
-use crate::desk::{self, Place, HALTED, INPUT, UNANSWERED, UNREAD};
+use crate::desk::{self, Place, HALTED, INPUT, UNANSWERED, UNREAD, WORD};
 use crate::session_trials::small_session;
 use crate::tally::Tally;
 use second::dice::{record, rule};
@@ -204,11 +204,11 @@ fn inputs_lengths(tally: &mut Tally, good: &Lent) {
 }
 
 fn zeros(tally: &mut Tally, good: &Lent, other: u8) {
-    for at in 0..16 {
-        let inputs = good.but(|lent| lent.inputs[INPUT * at + 1] = other);
+    for at in (0..16).flat_map(|i| (1..WORD).map(move |zero| INPUT * i + zero)) {
+        let inputs = good.but(|lent| lent.inputs[at] = other);
         answers(tally, "an input's zero", inputs.open(), 2);
         answers(tally, "an input's zero", inputs.run(), 2);
-        let session = good.but(|lent| lent.session[INPUT * at + 1] = other);
+        let session = good.but(|lent| lent.session[at] = other);
         misfit(tally, "an input's zero", &session);
     }
     let session = good.but(|lent| lent.session[HALTED + 1] = other);

@@ -1,6 +1,6 @@
 //! The printing program at its limits.
 
-use crate::desk::{inputs_bytes, INPUT, INPUTS};
+use crate::desk::{inputs_bytes, INPUT, INPUTS, WORD};
 use crate::made::{word_input, FALSE, FREE_TRUTH, FREE_WORD};
 use crate::needs::{making_terms, needing_depth, DEEPER};
 use crate::prints::compare;
@@ -49,9 +49,9 @@ fn input_records(tally: &mut Tally) {
 fn second_bytes(tally: &mut Tally) {
     for rule in [truth(true).rule(), vec![]] {
         for at in 0..16 {
-            for byte in [1, 255] {
+            for (zero, byte) in (1..WORD).flat_map(|zero| [(zero, 1), (zero, 255)]) {
                 let mut bytes = input(&[FALSE; 16], &rule);
-                bytes[INPUT * at + 1] = byte;
+                bytes[INPUT * at + zero] = byte;
                 expect(tally, "a second byte", &bytes, 2);
             }
         }

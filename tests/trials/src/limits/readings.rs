@@ -37,7 +37,7 @@ fn read(tally: &mut Tally, made: &Made, numbers: &[Word; 16], result: &ResultOf)
 fn numbers(tally: &mut Tally) {
     let made = every_kind();
     for at in 0..16 {
-        for number in [0, 1, 2, 3, 65_535] {
+        for number in [0, 1, 2, 3, Word::MAX] {
             let mut numbers = [0; 16];
             numbers[at] = number;
             for value in [FREE_TRUTH_TERM, FREE_WORD_TERM, NINE, LAST_TRUTH_TERM] {
