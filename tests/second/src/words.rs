@@ -1,3 +1,4 @@
+/// "Words are 16 bits": all else about the width follows from this type.
 pub type Word = u16;
 pub const WIDTH: Word = Word::BITS as Word;
 pub const WORD_BYTES: usize = Word::BITS as usize / 8;
