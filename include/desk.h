@@ -1,7 +1,7 @@
 /* The desk's library, target/staticlib/libdesk.a, which `rt staticlib desk` proves and writes (x86-64 Linux).
  *
- * A slice is lent as an address and a length: of bytes, and for the work list of numbers of 4 bytes. The caller owes
- * that the address is not null and holds so many, that a work list is aligned for uint32_t, and that nothing written
+ * A slice is lent as an address and a length: of bytes, and for the work list of places. The caller owes
+ * that the address is not null and holds so many, that a work list is aligned for desk_place, and that nothing written
  * (not const) overlaps another slice of the same call. Nothing else is asked of a caller: every length and every byte
  * is taken or refused. A call keeps no address and uses no memory but what is lent and the stack; an evaluation at the
  * largest depth takes up to 0.7 MiB of it.
@@ -44,13 +44,17 @@
 extern "C" {
 #endif
 
-/* The forms. Numbers of two bytes have the low one first. A byte that is called zero and is not, or a mark over 1, breaks
- * a form.
+/* A word of the rules, and a place of a work list. */
+typedef uint16_t desk_word;
+typedef uint32_t desk_place;
+
+/* The forms. Numbers of two bytes have the low one first, and so have words, which take two. A byte that is called zero
+ * and is not, or a mark over 1, breaks a form.
  *
  * inputs, 64 bytes: input i stands at 4 * i
  *   0  kind: one of enum desk_input
  *   1  zero
- *   2  value, two bytes
+ *   2  value, a word
  *
  * session, 74 bytes: written by desk_open and desk_evaluate
  *   0  inputs, 64 bytes
@@ -61,7 +65,7 @@ extern "C" {
  *  72  halted mark: 0 or 1
  *  73  zero
  *
- * numbers, 32 bytes: the number for input i stands at 2 * i, two bytes; a constant ignores its own
+ * numbers, 32 bytes: the number for input i stands at 2 * i, a word; a constant ignores its own
  *
  * result, 8 bytes: what desk_read reads; an answer begins with it
  *   0  S, two bytes
@@ -77,16 +81,17 @@ extern "C" {
  * reading, 4 bytes: written by desk_read and desk_run
  *   0  one of enum desk_reading
  *   1  zero
- *   2  its number, two bytes: 0 or 1 of a truth, the word, a procedure's record; 0 of an abort and of an error
+ *   2  its number, a word: 0 or 1 of a truth, the word, a procedure's record; 0 of an abort and of an error
  *
  * A table is records of 8 bytes, a rule too: document 01 has their fields. */
 enum {
-    DESK_INPUTS = 64,
-    DESK_SESSION = 74,
-    DESK_NUMBERS = 32,
+    DESK_WORD_BYTES = sizeof(desk_word),
+    DESK_INPUTS = 16 * 2 * DESK_WORD_BYTES,
+    DESK_SESSION = DESK_INPUTS + 10,
+    DESK_NUMBERS = 16 * DESK_WORD_BYTES,
     DESK_RESULT = 8,
     DESK_ANSWER = 10,
-    DESK_READING = 4,
+    DESK_READING = 2 * DESK_WORD_BYTES,
     DESK_LEAST_TABLE = 272,
     DESK_MOST_TABLE = 65536,
     DESK_MOST_RULE = 32768,
@@ -143,7 +148,7 @@ uint8_t desk_read(const uint8_t *session, size_t session_len,
                   const uint8_t *table, size_t table_len,
                   const uint8_t *numbers, size_t numbers_len,
                   const uint8_t *result, size_t result_len,
-                  uint32_t *work, size_t work_len,
+                  desk_place *work, size_t work_len,
                   uint8_t *reading, size_t reading_len);
 
 /* Runs one rule plainly, with no table and no session, under sixteen numbers. The store has a place for each whole 8

@@ -16,6 +16,15 @@ static unsigned two(const uint8_t *bytes)
     return bytes[0] + 256u * bytes[1];
 }
 
+static unsigned long word(const uint8_t *bytes)
+{
+    unsigned long number = 0;
+    int i;
+    for (i = DESK_WORD_BYTES; i > 0; i--)
+        number = 256 * number + bytes[i - 1];
+    return number;
+}
+
 static void accepted(uint8_t refusal)
 {
     if (refusal != 0) {
@@ -32,14 +41,14 @@ static void tell(const char *what, unsigned truth, const uint8_t *reading)
     };
     printf("%s %u: %s", what, truth, names[reading[0]]);
     if (reading[0] <= DESK_PROCEDURE)
-        printf(" %u", two(reading + 2));
+        printf(" %lu", word(reading + DESK_WORD_BYTES));
     printf("\n");
 }
 
 int main(void)
 {
     static uint8_t table[DESK_MOST_TABLE];
-    static uint32_t work[DESK_MOST_TABLE / 8];
+    static desk_place work[DESK_MOST_TABLE / 8];
     uint8_t inputs[DESK_INPUTS] = {DESK_FREE_TRUTH};
     uint8_t session[DESK_SESSION];
     uint8_t answer[DESK_ANSWER];
@@ -49,9 +58,9 @@ int main(void)
     int truth;
 
     accepted(desk_open(inputs, sizeof inputs, table, sizeof table, session, sizeof session));
-    opened = two(session + 64);
+    opened = two(session + DESK_INPUTS);
     accepted(desk_evaluate(session, sizeof session, table, sizeof table, rule, sizeof rule, 100, answer, sizeof answer));
-    count = two(session + 64);
+    count = two(session + DESK_INPUTS);
     if (answer[6] == 1)
         printf("halt %u %u %u\n", two(answer), two(answer + 2), count);
     else

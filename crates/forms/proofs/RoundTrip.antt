@@ -22,7 +22,7 @@ use Rattle.semantics.specs.Numbers.{inputCount}
 use Rattle.semantics.specs.Records.{wordAt}
 use Rattle.semantics.specs.Answers.{answerOf, resultIn as resultOf}
 use Rattle.semantics.specs.Print.{inputSize, inputAt, inputZeroed}
-use Rattle.forms.specs.Forms.{inputsLength, sessionLength, resultLength, answerLength, eachBelow, inputsIn, inputsZeroed, markFormed, sessionIn, sessionFormed, resultAt, resultFormed, resultIn, pairsOf, wordBytesOf, inputBytes, inputsBytes, sessionBytes}
+use Rattle.forms.specs.Forms.{inputsLength, sessionLength, resultLength, answerLength, eachBelow, inputsIn, inputsZeroed, markFormed, sessionIn, sessionFormed, resultAt, resultFormed, resultIn, pairsOf, wordBytesOf, kindBytes, inputBytes, inputsBytes, sessionBytes}
 use Rattle.forms.specs.Answers.{answerValues, writtenAt}
 use Rattle.forms.proofs.Written.{sets-whole, inputs-long, session-length}
 
@@ -49,7 +49,7 @@ byte-of (x ∷ xs) r d (suc i) j k h l e =
 
 -- byte j of its value
 value-byte : (x : Input) (j : ℕ) → getD (inputBytes x) (wordBytes + j) 0 ≡ getD (wordBytesOf (x .value)) j 0
-value-byte x j = getD-append-add (x .kind ∷ 0 ∷ []) (wordBytesOf (x .value)) j 0
+value-byte x j = getD-append-add (kindBytes (x .kind)) (wordBytesOf (x .value)) j 0
 
 -- a word is read where it was written
 word-back : (s : List ℕ) (i w : ℕ) → ((j k : ℕ) → j < wordBytes → k ≡ i + j → getD s k 0 ≡ getD (wordBytesOf w) j 0) → wordAt s i ≡ w

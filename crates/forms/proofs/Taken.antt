@@ -8,7 +8,7 @@ use native.Mathlib.Omega.{arith}
 use lib.Dec.{eqb}
 use lib.ListN.{getD, set, take, length}
 use lib.Seq.{take-all, take-suc-set}
-use borrow.Author.Tests.{eq-eqb, ne-eqb, lt-ltb, le-ltb}
+use borrow.Author.Tests.{lt-ltb, le-ltb}
 use Rattle.words.specs.Words.{wordBytes, joinOf}
 use Rattle.notation.specs.Notation.{if_then_else_, upTo}
 use Rattle.notation.proofs.Every.{up-next, up-stop, up-end}
@@ -46,13 +46,16 @@ numbers-all s = each-all (λ j. wordAt s (wordBytes * j))
 
 -- ---- the zeros after the inputs' kinds
 module _ (s : List ℕ) where
-  module _ (i : ℕ) {b : ℕ} (e : b ≡ getD s (inputSize * i + 1) 0) where
-    pub zeroed-miss : i < 16 → (b ≡ 0 → ⊥) → false ≡ inputsZeroed s
-    unfolding inputsZeroed
-    zeroed-miss h n = up-stop (inputZeroed s) i 16 h (rw (← e) (ne-eqb b 0 n))
+  pub zero-taken : (i : ℕ) {b : ℕ} → b ≡ getD s (inputSize * i + 1) 0 → eqb b 0 ≡ inputZeroed s i
+  zero-taken i e = rw e
 
-    pub zeroed-more : upTo i (inputZeroed s) ≡ true → b ≡ 0 → upTo (i + 1) (inputZeroed s) ≡ true
-    zeroed-more h z = up-next (inputZeroed s) i h (rw (← e) (eq-eqb b 0 z))
+  module _ (i : ℕ) {b : Bool} (e : b ≡ inputZeroed s i) where
+    pub zeroed-miss : i < 16 → b ≡ false → false ≡ inputsZeroed s
+    unfolding inputsZeroed
+    zeroed-miss h n = up-stop (inputZeroed s) i 16 h (sym e ∙ n)
+
+    pub zeroed-more : upTo i (inputZeroed s) ≡ true → b ≡ true → upTo (i + 1) (inputZeroed s) ≡ true
+    zeroed-more h z = up-next (inputZeroed s) i h (sym e ∙ z)
 
   pub zeroed-all : (i : ℕ) → upTo i (inputZeroed s) ≡ true → i ≤ 16 → 16 ≤ i → true ≡ inputsZeroed s
   unfolding inputsZeroed

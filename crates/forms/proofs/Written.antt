@@ -12,7 +12,7 @@ use Rattle.semantics.specs.declared.Input.{Input}
 use Rattle.semantics.specs.declared.Session.{Session}
 use Rattle.semantics.specs.Numbers.{inputCount}
 use Rattle.semantics.specs.Print.{inputSize}
-use Rattle.forms.specs.Forms.{inputsLength, sessionLength, pairsOf, wordBytesOf, wordsOf, inputBytes, inputsBytes, sessionBytes}
+use Rattle.forms.specs.Forms.{inputsLength, sessionLength, pairsOf, wordBytesOf, wordsOf, kindBytes, inputBytes, inputsBytes, sessionBytes}
 use Rattle.forms.specs.Answers.{writtenAt}
 
 -- a store past the end of a list
@@ -46,9 +46,13 @@ put-four s i a b c d ew ex ey ez =
 pub put-word : (s : List ℕ) (i w : ℕ) {l : ℕ} → l ≡ lowOf w → {y : List ℕ} → y ≡ sets s i (pairsOf (l ∷ [])) → y ≡ sets s i (wordBytesOf w)
 put-word s i w el ey = ey ∙ rw el
 
--- a kind, what is zero after it, and a word
-pub put-input : (s : List ℕ) (i b w : ℕ) {y z t : List ℕ} → y ≡ set s i b → z ≡ set y (i + 1) 0 → t ≡ sets z (i + wordBytes) (wordBytesOf w) → t ≡ sets s i (b ∷ 0 ∷ wordBytesOf w)
-put-input s i b w ey ez et = let q : i + wordBytes ≡ suc (suc i) = omega arith in et ∙ rw (ez, ey, add-one, q)
+-- a kind as a word, and a word
+kind-word : {k : ℕ} → k < 256 → wordBytesOf k ≡ kindBytes k
+unfolding lowOf
+kind-word {k} h = let p : k % 256 ≡ k = omega arith in let q : k / 256 ≡ 0 = omega arith in rw (p, q)
+
+pub put-input : (s : List ℕ) (i k w : ℕ) {y z : List ℕ} → y ≡ sets s i (wordBytesOf k) → k < 256 → z ≡ sets y (i + wordBytes) (wordBytesOf w) → z ≡ sets s i (kindBytes k ++ wordBytesOf w)
+put-input s i k w ey h ez = ez ∙ rw (ey ∙ ap (sets s i) (kind-word h)) (sets-then (kindBytes k) (wordBytesOf w) s i (i + wordBytes) refl)
 
 -- ---- answers
 module _ (s : List ℕ) {y z : List ℕ} where

@@ -1,10 +1,10 @@
 -- The byte forms of the library: how a list of bytes stands for what an operation takes or gives. A number of two bytes has the low one
 -- first. Each form has one length. A form is broken by a byte that is to be zero and is not, and by a mark over 1. Assumes nothing.
-use Prim.Native.Nat.{ℕ, zero, suc, _+_, _*_, _/_, _%_}
+use Prim.Native.Nat.{ℕ, zero, suc, _+_, _-_, _*_, _/_, _%_}
 use mathlib.Core.Bool.{Bool, false, _&&_}
 use mathlib.Core.List.{List, [], _∷_, _++_}
 use lib.Dec.{eqb, ltb}
-use lib.ListN.{getD, length}
+use lib.ListN.{getD, length, replicate}
 use Rattle.words.specs.Words.{wordBytes, lowOf}
 use Rattle.notation.specs.Notation.{if_then_else_, upTo}
 use Rattle.operators.specs.Operators.{bitOf}
@@ -114,9 +114,13 @@ abbrev pub wordsOf : List ℕ → List ℕ
 wordsOf [] = []
 wordsOf (w ∷ ws) = wordBytesOf w ++ wordsOf ws
 
--- inputs: for each its kind, a zero, and its value
+-- a kind, and zeros as far as a word goes
+abbrev pub kindBytes : ℕ → List ℕ
+kindBytes k = k ∷ replicate (wordBytes - 1) 0
+
+-- inputs: for each its kind with the zeros after it, and its value
 abbrev pub inputBytes : Input → List ℕ
-inputBytes x = x .kind ∷ 0 ∷ wordBytesOf (x .value)
+inputBytes x = kindBytes (x .kind) ++ wordBytesOf (x .value)
 
 unfoldable pub inputsBytes : List Input → List ℕ
 inputsBytes [] = []

@@ -15,7 +15,7 @@ ghost use lib.ListN.{length, set};
 ghost use lib.Seq.{sets};
 ghost use Rattle.operators.specs.Operators.{bitOf};
 ghost use Rattle.semantics.specs.Records.{pairAt, wordAt};
-ghost use Rattle.semantics.specs.Print.{inputSize, inputAt};
+ghost use Rattle.semantics.specs.Print.{inputSize, inputAt, inputZeroed};
 ghost use Rattle.forms.specs.Forms.{inputsLength, sessionLength, inputsIn, inputsZeroed, inputsFormed, numbersIn, markFormed, sessionIn, sessionFormed, resultIn, pairsOf, wordBytesOf, wordsOf, inputBytes, inputsBytes, sessionBytes};
 ghost use Rattle.forms.specs.Answers.{answerValues, outcomeValues, writtenAt};
 
@@ -37,8 +37,10 @@ pub const ANSWER: usize = 10;
 
 pub const READING: usize = 2 * words::BYTES;
 
-// Where a session's count, S, T, accepted rules and halted mark stand.
-const COUNT: u32 = INPUTS as u32;
+// Where a session's count, S, T, accepted rules and halted mark stand, after the inputs.
+const REST: u8 = INPUTS as u8;
+
+const COUNT: u32 = REST as u32;
 
 const ASSUMED: u32 = COUNT + 2;
 
@@ -104,13 +106,21 @@ pub fn numbers_in(s: &[u8]) -> [Word; 16]
     numbers
 }
 
-// Whether what stands between the kind and the value of each of the 16 inputs is zero.
+// Whether what stands between the kind and the value of an input is zero.
+fn input_zeroed(s: &[u8], i: u8) -> bool
+    ensures { λ r. ⌜ r ≡ inputZeroed (now (s .entry)) i ⌝ }
+{
+    let at = (INPUT * (i as u16)) as usize;
+    records::byte(s, at + 1) == 0
+}
+
+// The same of each of the 16 inputs.
 pub fn inputs_zeroed(s: &[u8]) -> bool
     ensures { λ r. ⌜ r ≡ inputsZeroed (now (s .entry)) ⌝ }
 {
-    let mut i: usize = 0;
+    let mut i: u8 = 0;
     while i < 16 {
-        if records::byte(s, (INPUT as usize) * i + 1) != 0 {
+        if input_zeroed(s, i) {} else {
             return false;
         }
         i += 1;
@@ -234,8 +244,7 @@ fn put_input(s: &mut [u8], i: u8, x: Input)
     ensures { λ _. ⌜ now (s .exit) ≡ sets (now (s .entry)) (inputSize * i) (inputBytes x) ⌝ }
 {
     let at = INPUT * (i as u16);
-    put(s, at as usize, x.kind);
-    put(s, (at as usize) + 1, 0);
+    put_word(s, at, x.kind as Word);
     put_word(s, at + WORD, x.value);
 }
 
@@ -255,14 +264,7 @@ pub fn put_session(s: &mut [u8], x: Session)
     let inputs = x.inputs;
     let state = x.state;
     put_inputs(s, inputs);
-    put_four(
-        s,
-        COUNT as u8,
-        x.count,
-        state.assumed,
-        state.asserted,
-        x.accepted,
-    );
+    put_four(s, REST, x.count, state.assumed, state.asserted, x.accepted);
     put(s, HALTED, bit_of(x.halted));
     put(s, HALTED + 1, 0);
 }

@@ -4,8 +4,11 @@ use words::Word;
 ghost use mathlib.Core.Path.{_≡_};
 ghost use Rattle.operators.specs.Operators.{rowOf, operandsOf, givesTruthOf, bitOf, operateOf};
 
+// Every code is below this.
+const CODES: usize = 36;
+
 // For each code its operands, and 4 more where it gives a truth; 0: no such code.
-const OPERATORS: [u8; 36] = [
+const OPERATORS: [u8; CODES] = [
     0,
     2,
     2,
@@ -77,7 +80,7 @@ fn row(op: u8) -> u8
     ensures { λ r. ⌜ r ≡ rowOf op ⌝ }
 {
     let i = op as usize;
-    if i < 36 { OPERATORS[i] } else { 0 }
+    if i < CODES { OPERATORS[i] } else { 0 }
 }
 
 // How many operands an operator has; 0: no such code.

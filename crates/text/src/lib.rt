@@ -10,6 +10,9 @@ const SPACE: u8 = 32;
 
 const LINE_FEED: u8 = 10;
 
+// What `io::decimal` asks for.
+const DIGITS: usize = 20;
+
 // These bytes as they are.
 pub fn put_bytes(out: &mut [u8], at: usize, bytes: &[u8]) -> usize
     requires { ⌜ at + length (now bytes) ≤ length (now out) ⌝ }
@@ -22,7 +25,7 @@ pub fn put_bytes(out: &mut [u8], at: usize, bytes: &[u8]) -> usize
 }
 
 // The digits of a number in base ten, of which there are at most 5.
-fn spell(n: u16, digits: &mut [u8; 20]) -> usize
+fn spell(n: u16, digits: &mut [u8; DIGITS]) -> usize
     ensures { λ r. ⌜ Spells n (now (digits .exit)) r ⌝ }
 {
     io::decimal(n as u64, digits)
@@ -33,7 +36,7 @@ pub fn put_number(out: &mut [u8], at: usize, n: u16, after: u8) -> usize
     requires { ⌜ at + numberBytes ≤ length (now out) ⌝ }
     ensures { λ r. ⌜ Appends numberBytes (decimalOf n ++ (after ∷ [])) (now (out .entry)) at (now (out .exit)) r ⌝ }
 {
-    let mut digits = [0u8; 20];
+    let mut digits = [0u8; DIGITS];
     let k = spell(n, &mut digits);
     let end = put_bytes(out, at, &digits[..k]);
     out[end] = after;

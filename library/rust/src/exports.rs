@@ -1,6 +1,10 @@
 //! The library's functions over slices, as `include/desk.h` documents them: each answers 0 or the number of a refusal.
 
+use crate::forms::Place;
+
 mod c {
+    use super::Place;
+
     extern "C" {
         pub fn desk_open(
             inputs: *const u8,
@@ -37,7 +41,7 @@ mod c {
             numbers_len: usize,
             result: *const u8,
             result_len: usize,
-            work: *mut u32,
+            work: *mut Place,
             work_len: usize,
             reading: *mut u8,
             reading_len: usize,
@@ -109,7 +113,7 @@ pub fn read(
     table: &[u8],
     numbers: &[u8],
     result: &[u8],
-    work: &mut [u32],
+    work: &mut [Place],
     reading: &mut [u8],
 ) -> u8 {
     unsafe {

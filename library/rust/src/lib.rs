@@ -2,15 +2,15 @@
 //! sixteen numbers, and plain runs. Byte forms stay inside; `exports` has the functions over them.
 
 pub mod exports;
+pub mod forms;
 
-const SESSION: usize = 74;
-const COUNT: usize = 64;
+use forms::{Word, ANSWER, COUNT, INPUT, READING, SESSION, WORD};
 
 /// An input of a session.
 #[derive(Clone, Copy, Debug, PartialEq, Eq)]
 pub enum Input {
     ConstantTruth(bool),
-    ConstantWord(u16),
+    ConstantWord(Word),
     FreeTruth,
     FreeWord,
 }
@@ -41,8 +41,8 @@ pub enum Answer {
 #[derive(Clone, Copy, Debug, PartialEq, Eq)]
 pub enum Reading {
     Truth(bool),
-    Word(u16),
-    Procedure(u16),
+    Word(Word),
+    Procedure(Word),
     Abort,
     Error,
 }
@@ -68,7 +68,7 @@ impl Desk {
 
     /// Evaluates a rule; a refused one changes nothing.
     pub fn evaluate(&mut self, rule: &[u8], allowance: u16) -> Result<Answer, Refusal> {
-        let mut form = [0; 10];
+        let mut form = [0; ANSWER];
         accepted(exports::evaluate(
             &mut self.session,
             &mut self.table,
@@ -94,7 +94,7 @@ impl Desk {
     }
 
     /// Reads an answer under sixteen numbers.
-    pub fn read(&self, answer: Answer, numbers: &[u16; 16]) -> Result<Reading, Refusal> {
+    pub fn read(&self, answer: Answer, numbers: &[Word; 16]) -> Result<Reading, Refusal> {
         let (assumed, asserted, value, halted) = match answer {
             Answer::Out {
                 assumed,
@@ -107,11 +107,11 @@ impl Desk {
             } => (assumed, asserted, 0, 1),
         };
         let mut work = vec![0; usize::from(self.count())];
-        let mut form = [0; 4];
+        let mut form = [0; READING];
         accepted(exports::read(
             &self.session,
             &self.table,
-            &pairs(numbers),
+            &words(numbers),
             &pairs(&[assumed, asserted, value, halted]),
             &mut work,
             &mut form,
@@ -143,15 +143,15 @@ pub fn test_rule(rule: &[u8]) -> Result<(), Refusal> {
 /// Runs a rule plainly under sixteen numbers, with a store of so many places.
 pub fn run(
     inputs: &[Input; 16],
-    numbers: &[u16; 16],
+    numbers: &[Word; 16],
     rule: &[u8],
     allowance: u16,
     places: usize,
 ) -> Result<Reading, Refusal> {
-    let (mut store, mut form) = (vec![0; 8 * places], [0; 4]);
+    let (mut store, mut form) = (vec![0; 8 * places], [0; READING]);
     accepted(exports::run(
         &inputs_bytes(inputs),
-        &pairs(numbers),
+        &words(numbers),
         rule,
         allowance,
         &mut store,
@@ -171,13 +171,15 @@ fn inputs_bytes(inputs: &[Input; 16]) -> Vec<u8> {
     let mut bytes = Vec::new();
     for input in inputs {
         let (kind, value) = match *input {
-            Input::ConstantTruth(truth) => (0, u16::from(truth)),
+            Input::ConstantTruth(truth) => (0, Word::from(truth)),
             Input::ConstantWord(word) => (1, word),
             Input::FreeTruth => (2, 0),
             Input::FreeWord => (3, 0),
         };
-        bytes.extend([kind, 0]);
-        bytes.extend(value.to_le_bytes());
+        let mut form = [0; INPUT];
+        form[0] = kind;
+        form[WORD..].copy_from_slice(&value.to_le_bytes());
+        bytes.extend(form);
     }
     bytes
 }
@@ -186,12 +188,18 @@ fn pairs(numbers: &[u16]) -> Vec<u8> {
     numbers.iter().flat_map(|n| n.to_le_bytes()).collect()
 }
 
+fn words(numbers: &[Word]) -> Vec<u8> {
+    numbers.iter().flat_map(|n| n.to_le_bytes()).collect()
+}
+
 fn two(bytes: &[u8], at: usize) -> u16 {
     u16::from_le_bytes([bytes[at], bytes[at + 1]])
 }
 
-fn reading(form: [u8; 4]) -> Reading {
-    let number = two(&form, 2);
+fn reading(form: [u8; READING]) -> Reading {
+    let mut word = [0; WORD];
+    word.copy_from_slice(&form[WORD..]);
+    let number = Word::from_le_bytes(word);
     match form[0] {
         1 => Reading::Truth(number == 1),
         2 => Reading::Word(number),

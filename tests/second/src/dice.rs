@@ -2,9 +2,16 @@
 
 use crate::records::Record;
 use crate::session::Input;
+use crate::words::{halves, Word, WIDTH};
 
 pub fn record(kind: u8, op: u8, a: u16, b: u16, c: u16) -> Record {
     Record { kind, op, a, b, c }
+}
+
+/// A word's record.
+pub fn datum(word: Word) -> Record {
+    let (low, high) = halves(word);
+    record(1, 2, low, high, 0)
 }
 
 pub fn rule(records: &[Record]) -> Vec<u8> {
@@ -33,10 +40,20 @@ impl Dice {
         items[self.below(items.len() as u64) as usize]
     }
 
-    pub fn word(&mut self) -> u16 {
+    pub fn word(&mut self) -> Word {
         match self.below(3) {
-            0 => self.below(65_536) as u16,
-            _ => self.pick(&[0, 1, 2, 3, 15, 16, 17, 32_768, 65_535]),
+            0 => self.below(1 << Word::BITS) as Word,
+            _ => self.pick(&[
+                0,
+                1,
+                2,
+                3,
+                WIDTH - 1,
+                WIDTH,
+                WIDTH + 1,
+                1 << (WIDTH - 1),
+                Word::MAX,
+            ]),
         }
     }
 
@@ -44,7 +61,7 @@ impl Dice {
         match self.below(4) {
             0 => Input {
                 kind: 0,
-                value: self.below(2) as u16,
+                value: self.below(2) as Word,
             },
             1 => Input {
                 kind: 1,
@@ -74,19 +91,19 @@ impl Dice {
     }
 
     /// Numbers that 13 lets pass.
-    pub fn numbers(&mut self, inputs: &[Input; 16]) -> [u16; 16] {
+    pub fn numbers(&mut self, inputs: &[Input; 16]) -> [Word; 16] {
         self.numbers_below(2, inputs)
     }
 
     /// Numbers of which a few are over 1 for a free truth.
-    pub fn any_numbers(&mut self, inputs: &[Input; 16]) -> [u16; 16] {
+    pub fn any_numbers(&mut self, inputs: &[Input; 16]) -> [Word; 16] {
         let bound = if self.below(10) == 0 { 3 } else { 2 };
         self.numbers_below(bound, inputs)
     }
 
-    fn numbers_below(&mut self, bound: u64, inputs: &[Input; 16]) -> [u16; 16] {
+    fn numbers_below(&mut self, bound: u64, inputs: &[Input; 16]) -> [Word; 16] {
         std::array::from_fn(|i| match inputs[i].kind {
-            2 => self.below(bound) as u16,
+            2 => self.below(bound) as Word,
             _ => self.word(),
         })
     }
@@ -111,7 +128,7 @@ impl Dice {
         records.push(record(2, 0, p, 0, 0));
         let grown = match self.below(if size > 1 { 14 } else { 6 }) {
             0 => record(1, self.below(2) as u8, 0, 0, 0),
-            1 => record(1, 2, self.word(), 0, 0),
+            1 => datum(self.word()),
             2 => record(2, 0, p, 0, 0),
             3 => self.operator(p, q),
             4 => record(4, 0, p, q, 0),

@@ -21,12 +21,13 @@ pub use read::{read, ResultOf};
 pub use records::{records, Record};
 pub use run::run;
 pub use session::{Input, Session};
+pub use words::{Word, WIDTH, WORD_BYTES};
 
 /// What reading or a plain run answers. A procedure is its record number.
 #[derive(Clone, Copy, PartialEq, Eq, Debug)]
 pub enum Outcome {
     Truth(bool),
-    Word(u16),
+    Word(Word),
     Procedure(u16),
     Abort,
     Error,

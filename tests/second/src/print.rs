@@ -2,10 +2,13 @@ use crate::evaluate::{evaluate, Answer};
 use crate::opening::open;
 use crate::records::records;
 use crate::session::Input;
+use crate::words::{Word, WORD_BYTES};
 use std::fmt::Write;
 
 const ALLOWANCE: u16 = 100;
-const INPUT_BYTES: usize = 64;
+/// A kind, what is zero, and from the middle on a word.
+const INPUT: usize = 2 * WORD_BYTES;
+const INPUT_BYTES: usize = 16 * INPUT;
 
 /// What the printing program writes for its standard input.
 pub fn print(input: &[u8]) -> String {
@@ -31,15 +34,16 @@ fn printed(input: &[u8]) -> Result<String, u8> {
     Ok(text)
 }
 
-/// Nothing if the second byte of an input is not zero.
+/// Nothing if what stands between the kind and the value of an input is not zero.
 fn parse_inputs(head: &[u8]) -> Option<[Input; 16]> {
     let mut inputs = [Input::default(); 16];
-    for (input, record) in inputs.iter_mut().zip(head.chunks_exact(4)) {
-        if record[1] != 0 {
+    for (input, record) in inputs.iter_mut().zip(head.chunks_exact(INPUT)) {
+        let (kind, value) = record.split_at(WORD_BYTES);
+        if kind[1..].iter().any(|&byte| byte != 0) {
             return None;
         }
-        input.kind = record[0];
-        input.value = u16::from_le_bytes([record[2], record[3]]);
+        input.kind = kind[0];
+        input.value = Word::from_le_bytes(value.try_into().ok()?);
     }
     Some(inputs)
 }

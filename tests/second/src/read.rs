@@ -1,6 +1,6 @@
 use crate::session::{fit, is_truth, test_numbers, Session};
 use crate::terms::{Factory, Sort, Term};
-use crate::words::{on_words, shape, Value, AND, IS_PROCEDURE, IS_WORD, NOT, OR, TRUTH};
+use crate::words::{on_words, shape, Value, Word, AND, IS_PROCEDURE, IS_WORD, NOT, OR, TRUTH};
 use crate::Outcome;
 
 /// The result of an evaluation; a halt's value is not looked at.
@@ -18,7 +18,7 @@ type Reading = Value<u16>;
 pub fn read(
     session: &Session,
     table: &[u8],
-    numbers: &[u16; 16],
+    numbers: &[Word; 16],
     result: &ResultOf,
     work_len: usize,
 ) -> Outcome {
@@ -28,7 +28,7 @@ pub fn read(
 fn attempt(
     session: &Session,
     table: &[u8],
-    numbers: &[u16; 16],
+    numbers: &[Word; 16],
     result: &ResultOf,
     work_len: usize,
 ) -> Result<Outcome, u8> {
@@ -65,7 +65,7 @@ fn outcome(reading: Reading) -> Outcome {
 }
 
 /// Every term names only lower ones, so one pass from below reads them all.
-fn read_terms(terms: &[Term], numbers: &[u16; 16]) -> Vec<Reading> {
+fn read_terms(terms: &[Term], numbers: &[Word; 16]) -> Vec<Reading> {
     let mut readings = Vec::with_capacity(terms.len());
     for &term in terms {
         let reading = read_term(term, &readings, numbers);
@@ -74,7 +74,7 @@ fn read_terms(terms: &[Term], numbers: &[u16; 16]) -> Vec<Reading> {
     readings
 }
 
-fn read_term(term: Term, readings: &[Reading], numbers: &[u16; 16]) -> Reading {
+fn read_term(term: Term, readings: &[Reading], numbers: &[Word; 16]) -> Reading {
     let at = |number: u16| readings[usize::from(number)];
     match term {
         Term::Truth(truth) => Value::Truth(truth),

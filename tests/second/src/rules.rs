@@ -1,11 +1,11 @@
 use crate::records::{records, Record};
-use crate::words::shape;
+use crate::words::{joined, shape, Word};
 
 /// One record of a rule. Places are counted from the nearest binding.
 #[derive(Clone, Copy)]
 pub enum Expression {
     Truth(bool),
-    Word(u16),
+    Word(Word),
     Variable(u16),
     Procedure { body: u16 },
     Call { procedure: u16, argument: u16 },
@@ -54,7 +54,7 @@ fn expression(record: Record) -> Option<Expression> {
     Some(match (kind, op, a, b, c) {
         (1, 0, 0, 0, 0) => Expression::Truth(false),
         (1, 1, 0, 0, 0) => Expression::Truth(true),
-        (1, 2, word, 0, 0) => Expression::Word(word),
+        (1, 2, low, high, 0) => Expression::Word(joined(low, high)?),
         (2, 0, place, 0, 0) => Expression::Variable(place),
         (3, 0, body, 0, 0) => Expression::Procedure { body },
         (4, 0, procedure, argument, 0) => Expression::Call {

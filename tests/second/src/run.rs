@@ -1,7 +1,7 @@
 use crate::opening::inputs_fit;
 use crate::rules::{test_allowance, Expression, Rule};
 use crate::session::{test_numbers, Input};
-use crate::words::{on_words, Value, IS_FALSE, IS_PROCEDURE, IS_WORD};
+use crate::words::{on_words, Value, Word, IS_FALSE, IS_PROCEDURE, IS_WORD};
 use crate::Outcome;
 
 /// A procedure record with the bindings where it was met.
@@ -29,7 +29,7 @@ struct Runner<'a> {
 /// Runs one rule on its own, with the store's length in bytes.
 pub fn run(
     inputs: &[Input; 16],
-    numbers: &[u16; 16],
+    numbers: &[Word; 16],
     rule: &[u8],
     allowance: u16,
     store_len: usize,
@@ -53,7 +53,7 @@ pub fn run(
 
 fn test(
     inputs: &[Input; 16],
-    numbers: &[u16; 16],
+    numbers: &[Word; 16],
     rule: &[u8],
     allowance: u16,
 ) -> Result<Rule, u8> {
@@ -66,7 +66,7 @@ fn test(
     Ok(rule)
 }
 
-fn input_value(input: &Input, number: u16) -> Plain {
+fn input_value(input: &Input, number: Word) -> Plain {
     match input.kind {
         0 => Value::Truth(input.value == 1),
         1 => Value::Word(input.value),
@@ -79,7 +79,7 @@ impl Runner<'_> {
     fn start(
         &mut self,
         inputs: &[Input; 16],
-        numbers: &[u16; 16],
+        numbers: &[Word; 16],
         allowance: u16,
     ) -> Result<Plain, Outcome> {
         let mut environment = 0;

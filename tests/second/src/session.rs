@@ -1,12 +1,13 @@
 use crate::opening::{inputs_fit, length_fits, opening};
 use crate::records::records;
 use crate::terms::{Factory, Sort, Term};
+use crate::words::Word;
 
 /// Kind 0 constant truth, 1 constant word, 2 free truth, 3 free word.
 #[derive(Clone, Copy, PartialEq, Eq, Debug, Default)]
 pub struct Input {
     pub kind: u8,
-    pub value: u16,
+    pub value: Word,
 }
 
 #[derive(Clone, Copy, PartialEq, Eq, Debug)]
@@ -77,8 +78,8 @@ pub fn is_truth(factory: &Factory, number: u16) -> bool {
 }
 
 /// Test 13: a free truth takes 0 or 1; constants ignore their numbers.
-pub fn test_numbers(inputs: &[Input; 16], numbers: &[u16; 16]) -> Result<(), u8> {
-    let over = |(input, &number): (&Input, &u16)| input.kind == 2 && number > 1;
+pub fn test_numbers(inputs: &[Input; 16], numbers: &[Word; 16]) -> Result<(), u8> {
+    let over = |(input, &number): (&Input, &Word)| input.kind == 2 && number > 1;
     if inputs.iter().zip(numbers).any(over) {
         Err(13)
     } else {

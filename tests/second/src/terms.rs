@@ -1,5 +1,6 @@
 use crate::records::Record;
-use crate::words::{on_words, shape, Value, AND, IS_PROCEDURE, IS_WORD, NOT, OR, TRUTH};
+use crate::words::{halves, joined, on_words, shape, Value, Word};
+use crate::words::{AND, IS_PROCEDURE, IS_WORD, NOT, OR, TRUTH};
 use std::collections::hash_map::{Entry, HashMap};
 use std::hash::{BuildHasherDefault, Hasher};
 
@@ -21,7 +22,7 @@ pub const NO_BINDING: u16 = 65_535;
 #[derive(Clone, Copy, PartialEq, Eq, Debug)]
 pub enum Term {
     Truth(bool),
-    Word(u16),
+    Word(Word),
     FreeTruth(u16),
     FreeWord(u16),
     Operator {
@@ -61,7 +62,7 @@ impl Term {
         let Record { kind, op, a, b, c } = record;
         Some(match (kind, op, a, b, c) {
             (1, 0, 0 | 1, 0, 0) => Term::Truth(a == 1),
-            (2, 0, word, 0, 0) => Term::Word(word),
+            (2, 0, low, high, 0) => Term::Word(joined(low, high)?),
             (3, 0, input, 0, 0) => Term::FreeTruth(input),
             (4, 0, input, 0, 0) => Term::FreeWord(input),
             (5, op, a, b, 0) if operator_fits(op, b) => Term::Operator { op, a, b },
@@ -79,7 +80,10 @@ impl Term {
     pub fn encode(self) -> Record {
         let (kind, op, a, b, c) = match self {
             Term::Truth(truth) => (1, 0, u16::from(truth), 0, 0),
-            Term::Word(word) => (2, 0, word, 0, 0),
+            Term::Word(word) => {
+                let (low, high) = halves(word);
+                (2, 0, low, high, 0)
+            }
             Term::FreeTruth(input) => (3, 0, input, 0, 0),
             Term::FreeWord(input) => (4, 0, input, 0, 0),
             Term::Operator { op, a, b } => (5, op, a, b, 0),
@@ -106,7 +110,7 @@ impl Term {
     }
 
     /// The word of a word constant.
-    fn word(self) -> Option<u16> {
+    fn word(self) -> Option<Word> {
         match self {
             Term::Word(word) => Some(word),
             _ => None,

@@ -1,3 +1,19 @@
+/// "Words are 16 bits": all else about the width follows from this type.
+pub type Word = u16;
+pub const WIDTH: Word = Word::BITS as Word;
+pub const WORD_BYTES: usize = Word::BITS as usize / 8;
+
+/// A word in two fields of a record or a term, the low half first.
+pub fn halves(word: Word) -> (u16, u16) {
+    let word = u64::from(word);
+    (word as u16, (word >> 16) as u16)
+}
+
+/// The word in two fields, or nothing if a word does not take what the second has.
+pub fn joined(low: u16, high: u16) -> Option<Word> {
+    Word::try_from(u64::from(high) << 16 | u64::from(low)).ok()
+}
+
 pub const IS_FALSE: u8 = 13;
 pub const IS_WORD: u8 = 14;
 pub const IS_PROCEDURE: u8 = 15;
@@ -10,7 +26,7 @@ pub const TRUTH: u8 = 35;
 #[derive(Clone, Copy, PartialEq, Eq, Debug)]
 pub enum Value<P> {
     Truth(bool),
-    Word(u16),
+    Word(Word),
     Procedure(P),
 }
 
@@ -20,7 +36,7 @@ impl<P> Value<P> {
         !matches!(self, Value::Truth(false))
     }
 
-    pub fn word(&self) -> Option<u16> {
+    pub fn word(&self) -> Option<Word> {
         match self {
             Value::Word(word) => Some(*word),
             _ => None,
@@ -60,7 +76,7 @@ pub fn shape(op: u8) -> Shape {
 }
 
 /// An operator 1 to 12 on its operands, or nothing if one of them is no word.
-pub fn on_words<P>(op: u8, x: Option<u16>, y: Option<u16>) -> Option<Value<P>> {
+pub fn on_words<P>(op: u8, x: Option<Word>, y: Option<Word>) -> Option<Value<P>> {
     let x = x?;
     let y = if shape(op).operands == 2 { y? } else { 0 };
     Some(match op {
@@ -70,10 +86,10 @@ pub fn on_words<P>(op: u8, x: Option<u16>, y: Option<u16>) -> Option<Value<P>> {
         4 => Value::Word(x & y),
         5 => Value::Word(x | y),
         6 => Value::Word(x ^ y),
-        7 => Value::Word(x << (y % 16)),
-        8 => Value::Word(x >> (y % 16)),
-        9 => Value::Word(x.count_ones() as u16),
-        10 => Value::Word(x.leading_zeros() as u16),
+        7 => Value::Word(x << (y % WIDTH)),
+        8 => Value::Word(x >> (y % WIDTH)),
+        9 => Value::Word(x.count_ones() as Word),
+        10 => Value::Word(x.leading_zeros() as Word),
         11 => Value::Truth(x < y),
         12 => Value::Truth(x == y),
         _ => return None,

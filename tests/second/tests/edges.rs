@@ -3,9 +3,13 @@ mod common;
 use common::{fits, free_inputs, opened, word, FALSE, FREE_TRUTH};
 use second::dice::{record, rule, Dice};
 use second::{evaluate, open, print, read, run, Answer, Input, Outcome, Record, ResultOf, Session};
+use second::{Word, WORD_BYTES};
 use std::collections::BTreeSet;
 
-const ZEROS: [u16; 16] = [0; 16];
+const ZEROS: [Word; 16] = [0; 16];
+
+/// The bytes of the printing program's inputs.
+const INPUTS: usize = 16 * 2 * WORD_BYTES;
 
 fn evaluate_fresh(inputs: &[Input; 16], rule: &[u8], allowance: u16) -> Answer {
     let (mut session, mut table) = opened(inputs, 65_536);
@@ -521,13 +525,13 @@ fn self_application_spends_every_depth() {
 #[test]
 fn printing_refuses_cut_inputs_and_lone_rules() {
     assert_eq!(print(&[]), "refused 2\n");
-    assert_eq!(print(&[0; 63]), "refused 2\n");
-    assert_eq!(print(&[0; 64]), "refused 4\n");
-    let mut second_byte = vec![0; 72];
-    second_byte[61] = 1;
+    assert_eq!(print(&[0; INPUTS - 1]), "refused 2\n");
+    assert_eq!(print(&[0; INPUTS]), "refused 4\n");
+    let mut second_byte = vec![0; INPUTS + 8];
+    second_byte[15 * 2 * WORD_BYTES + 1] = 1;
     assert_eq!(print(&second_byte), "refused 2\n");
-    assert_eq!(print(&[0; 72]), "refused 5\n");
-    let mut long = vec![0; 64];
+    assert_eq!(print(&[0; INPUTS + 8]), "refused 5\n");
+    let mut long = vec![0; INPUTS];
     long.extend(heap(4_096));
     assert!(print(&long).starts_with("out 1 1 "));
     long.push(0);

@@ -2,10 +2,10 @@ mod common;
 
 use common::opened;
 use second::dice::Dice;
-use second::{evaluate, print, read, run, Answer, Input, Outcome, ResultOf, Session};
+use second::{evaluate, print, read, run, Answer, Input, Outcome, ResultOf, Session, Word};
 
 /// What the accepted rules give when run in turn, each with its reported depth.
-fn run_list(inputs: &[Input; 16], numbers: &[u16; 16], rules: &[(Vec<u8>, u16)]) -> Outcome {
+fn run_list(inputs: &[Input; 16], numbers: &[Word; 16], rules: &[(Vec<u8>, u16)]) -> Outcome {
     let mut last = Outcome::Refused(0);
     for (rule, depth) in rules {
         last = run(inputs, numbers, rule, *depth, 65_536);

@@ -4,7 +4,7 @@
 use crate::tree::{bind, call, error, procedure, test, truth, word, Tree};
 
 pub fn procedures(count: u16) -> Vec<Tree> {
-    (0..count).map(|n| procedure(word(n))).collect()
+    (0..count).map(|n| procedure(word(n.into()))).collect()
 }
 
 /// The first leaf, or else the others, and so on, by the truths at places 1 to 15 in turn.

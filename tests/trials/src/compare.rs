@@ -4,7 +4,7 @@
 use crate::desk;
 use crate::made::FALSE;
 use crate::tally::Tally;
-use second::{evaluate, open, read, run, Answer, Input, Outcome, ResultOf, Session};
+use second::{evaluate, open, read, run, Answer, Input, Outcome, ResultOf, Session, Word};
 
 /// Tests 4 to 7: a run on good inputs with an allowance of 0 goes no further than 8.
 pub fn second_rule_refusal(bytes: &[u8]) -> u8 {
@@ -35,11 +35,11 @@ fn answer_number(outcome: Outcome) -> u8 {
 
 pub fn compare_open(tally: &mut Tally, inputs: &[Input; 16], bytes: usize) -> u8 {
     let (mut ours, mut theirs) = (vec![0x5a; bytes], vec![0x5a; bytes]);
-    let mut session = vec![0xa5; 74];
+    let mut session = vec![0xa5; desk::SESSION];
     let refusal = desk::open(&desk::inputs_bytes(inputs), &mut ours, &mut session);
     let (expected, form) = match open(inputs, &mut theirs) {
         Ok(session) => (0, desk::session_bytes(&session)),
-        Err(refusal) => (refusal, vec![0xa5; 74]),
+        Err(refusal) => (refusal, vec![0xa5; desk::SESSION]),
     };
     tally.saw("open", expected);
     tally.same("open", refusal, expected);
@@ -66,7 +66,7 @@ pub fn compare_fits(tally: &mut Tally, session: &Session, table: &[u8]) -> u8 {
 pub fn compare_run(
     tally: &mut Tally,
     inputs: &[Input; 16],
-    numbers: &[u16; 16],
+    numbers: &[Word; 16],
     bytes: &[u8],
     allowance: u16,
     store: usize,
@@ -96,7 +96,7 @@ pub fn compare_read(
     tally: &mut Tally,
     session: &Session,
     table: &[u8],
-    numbers: &[u16; 16],
+    numbers: &[Word; 16],
     result: &ResultOf,
     work: usize,
 ) -> u8 {

@@ -1,13 +1,16 @@
 //! The desk's exports, with the byte forms of what they take and give.
 
 pub use ::desk::exports::{evaluate, fits, open, read, rule_refusal, run};
-use second::{Answer, Input, Outcome, ResultOf, Session};
+pub use ::desk::forms::{Place, ANSWER, HALTED, INPUT, INPUTS, READING, SESSION, WORD};
+use second::{Answer, Input, Outcome, ResultOf, Session, Word};
 
 pub fn inputs_bytes(inputs: &[Input; 16]) -> Vec<u8> {
     let mut bytes = Vec::new();
     for input in inputs {
-        bytes.extend([input.kind, 0]);
-        bytes.extend(input.value.to_le_bytes());
+        let mut form = [0; INPUT];
+        form[0] = input.kind;
+        form[WORD..].copy_from_slice(&input.value.to_le_bytes());
+        bytes.extend(form);
     }
     bytes
 }
@@ -21,7 +24,12 @@ pub fn session_bytes(session: &Session) -> Vec<u8> {
     bytes
 }
 
-pub fn numbers_bytes(numbers: &[u16; 16]) -> Vec<u8> {
+/// The word of its bytes.
+pub fn word(bytes: &[u8]) -> Word {
+    Word::from_le_bytes(bytes.try_into().expect("the bytes of a word"))
+}
+
+pub fn numbers_bytes(numbers: &[Word; 16]) -> Vec<u8> {
     numbers.iter().flat_map(|n| n.to_le_bytes()).collect()
 }
 
@@ -35,16 +43,16 @@ pub fn result_bytes(result: &ResultOf) -> Vec<u8> {
 }
 
 /// What a refused evaluation leaves at an answer's place: these bytes, as they were.
-pub const UNANSWERED: [u8; 10] = [0xa5; 10];
+pub const UNANSWERED: [u8; ANSWER] = [0xa5; ANSWER];
 
-/// The refusal or 0, and the answer's ten bytes then.
-pub fn answer_bytes(answer: Answer) -> (u8, [u8; 10]) {
+/// The refusal or 0, and the answer's bytes then.
+pub fn answer_bytes(answer: Answer) -> (u8, [u8; ANSWER]) {
     let values = match answer {
         Answer::Out { s, t, value, depth } => [s, t, value, 0, depth],
         Answer::Halt { s, t, depth } => [s, t, 0, 1, depth],
         Answer::Refused(refusal) => return (refusal, UNANSWERED),
     };
-    let mut bytes = [0; 10];
+    let mut bytes = [0; ANSWER];
     for (place, number) in bytes.chunks_exact_mut(2).zip(values) {
         place.copy_from_slice(&number.to_le_bytes());
     }
@@ -52,18 +60,20 @@ pub fn answer_bytes(answer: Answer) -> (u8, [u8; 10]) {
 }
 
 /// What a refused operation leaves at a reading's place: these bytes, as they were.
-pub const UNREAD: [u8; 4] = [0xa5; 4];
+pub const UNREAD: [u8; READING] = [0xa5; READING];
 
-/// The refusal or 0, and the reading's four bytes then.
-pub fn outcome_bytes(outcome: Outcome) -> (u8, [u8; 4]) {
+/// The refusal or 0, and the reading's bytes then: two words.
+pub fn outcome_bytes(outcome: Outcome) -> (u8, [u8; READING]) {
     let (tag, number) = match outcome {
-        Outcome::Truth(truth) => (1, u16::from(truth)),
+        Outcome::Truth(truth) => (1, Word::from(truth)),
         Outcome::Word(word) => (2, word),
-        Outcome::Procedure(record) => (7, record),
+        Outcome::Procedure(record) => (7, record as Word),
         Outcome::Abort => (8, 0),
         Outcome::Error => (9, 0),
         Outcome::Refused(refusal) => return (refusal, UNREAD),
     };
-    let [low, high] = number.to_le_bytes();
-    (0, [tag, 0, low, high])
+    let mut bytes = [0; READING];
+    bytes[0] = tag;
+    bytes[WORD..].copy_from_slice(&number.to_le_bytes());
+    (0, bytes)
 }

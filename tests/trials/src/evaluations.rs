@@ -211,7 +211,7 @@ fn reads_as_runs(tally: &mut Tally) {
 }
 
 /// The last rule's reading, or the first abort or error.
-fn ran_in_turn(inputs: &[u8], numbers: &[u8], rules: &[(Vec<u8>, u16)]) -> [u8; 4] {
+fn ran_in_turn(inputs: &[u8], numbers: &[u8], rules: &[(Vec<u8>, u16)]) -> [u8; desk::READING] {
     let mut reading = desk::UNREAD;
     for (bytes, depth) in rules {
         let mut store = vec![0; 65_536];

@@ -1,7 +1,7 @@
 //! Byte forms of wrong lengths, or with a mark or a zero that is another number: each is refused by its number, in the
 //! operation's order of tests.
 
-use crate::desk::{self, UNANSWERED, UNREAD};
+use crate::desk::{self, Place, HALTED, INPUT, UNANSWERED, UNREAD, WORD};
 use crate::session_trials::small_session;
 use crate::tally::Tally;
 use second::dice::{record, rule};
@@ -34,7 +34,7 @@ struct Lent {
     rule: Vec<u8>,
     answer: Vec<u8>,
     result: Vec<u8>,
-    work: Vec<u32>,
+    work: Vec<Place>,
     store: Vec<u8>,
     reading: Vec<u8>,
 }
@@ -91,7 +91,7 @@ impl Lent {
         self.but(|lent| {
             lent.inputs[1] = 1;
             lent.numbers[0] = 2;
-            lent.session[72] = 2;
+            lent.session[HALTED] = 2;
             lent.table.pop();
             lent.rule.clear();
             lent.result[6] = 2;
@@ -204,21 +204,21 @@ fn inputs_lengths(tally: &mut Tally, good: &Lent) {
 }
 
 fn zeros(tally: &mut Tally, good: &Lent, other: u8) {
-    for at in 0..16 {
-        let inputs = good.but(|lent| lent.inputs[4 * at + 1] = other);
+    for at in (0..16).flat_map(|i| (1..WORD).map(move |zero| INPUT * i + zero)) {
+        let inputs = good.but(|lent| lent.inputs[at] = other);
         answers(tally, "an input's zero", inputs.open(), 2);
         answers(tally, "an input's zero", inputs.run(), 2);
-        let session = good.but(|lent| lent.session[4 * at + 1] = other);
+        let session = good.but(|lent| lent.session[at] = other);
         misfit(tally, "an input's zero", &session);
     }
-    let session = good.but(|lent| lent.session[73] = other);
+    let session = good.but(|lent| lent.session[HALTED + 1] = other);
     misfit(tally, "session's zero", &session);
     let result = good.but(|lent| lent.result[7] = other);
     answers(tally, "result's zero", result.read(), 14);
 }
 
 fn marks(tally: &mut Tally, good: &Lent, other: u8) {
-    let session = good.but(|lent| lent.session[72] = other);
+    let session = good.but(|lent| lent.session[HALTED] = other);
     let result = good.but(|lent| lent.result[6] = other);
     if other == 1 {
         answers(tally, "session's mark", session.fits(), 0);

@@ -1,14 +1,14 @@
 //! Sessions over tables that are made by hand, from an opening by the desk.
 
 use crate::desk;
-use second::{Input, Record, Session};
+use second::{Input, Record, Session, Word};
 
 pub const FALSE: Input = Input { kind: 0, value: 0 };
 pub const TRUE: Input = Input { kind: 0, value: 1 };
 pub const FREE_TRUTH: Input = Input { kind: 2, value: 0 };
 pub const FREE_WORD: Input = Input { kind: 3, value: 0 };
 
-pub fn word_input(value: u16) -> Input {
+pub fn word_input(value: Word) -> Input {
     Input { kind: 1, value }
 }
 

@@ -1,6 +1,7 @@
 //! The printing program against the second evaluator: the vectors' inputs, and one of them cut short at every length,
 //! grown past the longest rule, and empty.
 
+use crate::desk::INPUTS;
 use crate::tally::Tally;
 use second::print;
 use second::text::hex;
@@ -12,7 +13,7 @@ const PRINTS: &str = include_str!("../../vectors/print.txt");
 const PRINTED_CASE: &[u8] = include_bytes!("../../../examples/printed-case.bin");
 
 /// One byte more than the inputs and the longest rule.
-const TOO_LONG: usize = 64 + 32_768 + 1;
+const TOO_LONG: usize = INPUTS + 32_768 + 1;
 
 pub fn all(tally: &mut Tally) {
     for bytes in PRINTS

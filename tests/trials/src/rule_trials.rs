@@ -6,7 +6,7 @@ use crate::rules::long_rule;
 use crate::run_trials::{ALLOWANCES, STORES};
 use crate::tally::Tally;
 use second::dice::{record, rule, Dice};
-use second::{Input, Record};
+use second::{Input, Record, Word};
 
 pub fn all(tally: &mut Tally) {
     rule_sizes(tally);
@@ -37,7 +37,7 @@ fn rule_sizes(tally: &mut Tally) {
 fn scopes(tally: &mut Tally) {
     let inputs: [Input; 16] = std::array::from_fn(|i| Input {
         kind: 1,
-        value: i as u16,
+        value: i as Word,
     });
     for place in (0..=20).chain([4_096, 65_535]) {
         let uses = [

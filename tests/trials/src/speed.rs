@@ -97,7 +97,7 @@ impl Start {
             &mut self.table,
             bytes,
             ALLOWANCE,
-            &mut [0; 10],
+            &mut [0; desk::ANSWER],
         )
     }
 
@@ -151,7 +151,7 @@ fn openings() {
             &format!("open, table of {bytes} bytes"),
             1,
             &table,
-            |table| assert_eq!(desk::open(&form, table, &mut [0; 74]), 0),
+            |table| assert_eq!(desk::open(&form, table, &mut [0; desk::SESSION]), 0),
             |table| assert!(open(&inputs, table).is_ok()),
         );
     }
@@ -217,7 +217,14 @@ impl Chain {
             1,
             &work,
             |work| {
-                let refusal = desk::read(form, table, &number_bytes, &result, work, &mut [0; 4]);
+                let refusal = desk::read(
+                    form,
+                    table,
+                    &number_bytes,
+                    &result,
+                    work,
+                    &mut [0; desk::READING],
+                );
                 assert_eq!(refusal, 0);
             },
             |work| {

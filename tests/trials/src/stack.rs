@@ -13,7 +13,7 @@ pub fn run(kibibytes: usize) {
         let mut table = vec![0; 65_536];
         let session = open(&[Input { kind: 2, value: 0 }; 16], &mut table).expect("a good opening");
         let mut form = desk::session_bytes(&session);
-        let mut answer = [0; 10];
+        let mut answer = [0; desk::ANSWER];
         desk::evaluate(&mut form, &mut table, &bytes, 256, &mut answer)
     };
     let thread = std::thread::Builder::new().stack_size(kibibytes * 1_024);

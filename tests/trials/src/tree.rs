@@ -1,7 +1,7 @@
 //! Rules written as trees; their records are laid out with each parent before its children.
 
-use second::dice::{record, rule};
-use second::Record;
+use second::dice::{datum, record, rule};
+use second::{Record, Word};
 
 #[derive(Clone)]
 pub enum Tree {
@@ -15,8 +15,8 @@ pub fn truth(truth: bool) -> Tree {
     Tree::Leaf(record(1, u8::from(truth), 0, 0, 0))
 }
 
-pub fn word(word: u16) -> Tree {
-    Tree::Leaf(record(1, 2, word, 0, 0))
+pub fn word(word: Word) -> Tree {
+    Tree::Leaf(datum(word))
 }
 
 pub fn place(place: u16) -> Tree {

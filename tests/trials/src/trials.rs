@@ -4,7 +4,7 @@ use crate::compare::compare_open;
 use crate::tally::Tally;
 use crate::{evaluations, form_trials, limits, rule_trials, run_trials, session_trials, vectors};
 use second::dice::Dice;
-use second::Input;
+use second::{Input, Word};
 
 pub fn all() -> Tally {
     let mut tally = Tally::default();
@@ -47,7 +47,7 @@ fn openings(tally: &mut Tally) {
         }
     }
     for kind in 0..=255 {
-        for value in [0, 1, 2, 65_535] {
+        for value in [0, 1, 2, Word::MAX] {
             let mut inputs = dice.inputs();
             let at = dice.below(16) as usize;
             inputs[at] = Input { kind, value };

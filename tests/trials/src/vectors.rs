@@ -1,6 +1,7 @@
 //! The vectors' cases through the desk. What they expect is checked on the second evaluator, by its program `vectors`.
 
 use crate::compare::{compare_open, compare_read, compare_run, result_of};
+use crate::desk::{word, INPUT, INPUTS, WORD};
 use crate::evaluations::Pair;
 use crate::tally::Tally;
 use second::text::{hex, input, sixteen};
@@ -68,12 +69,12 @@ fn session(tally: &mut Tally, case: &str) -> Option<()> {
 
 /// A printing program's input: the rule as given, and again with every smaller table and allowance.
 fn print(tally: &mut Tally, bytes: &[u8]) {
-    let Some((head, rule)) = bytes.split_at_checked(64) else {
+    let Some((head, rule)) = bytes.split_at_checked(INPUTS) else {
         return;
     };
     let inputs = std::array::from_fn(|i| Input {
-        kind: head[4 * i],
-        value: u16::from_le_bytes([head[4 * i + 2], head[4 * i + 3]]),
+        kind: head[INPUT * i],
+        value: word(&head[INPUT * i + WORD..INPUT * (i + 1)]),
     });
     compare_open(tally, &inputs, 65_536);
     let Some(mut pair) = Pair::open(&inputs, 65_536) else {

@@ -26,5 +26,4 @@ loop-again c = (search needs, search (needs, zeroed-more))
 pub inputs-zeroed-spec : {M : Type 1} → statement M
 inputs-zeroed-spec =
     tie.close
-    (tie.spec Inv-loop μ-loop loop-holds (λ c. search needs) (λ c. search needs) (λ c. search needs) (λ c κs. search needs) (λ c. search (needs, zeroed-miss)) (λ c. search needs)
-    (λ c. search needs) loop-again (λ c. search (needs, zeroed-all)))
+    (tie.spec Inv-loop μ-loop loop-holds (λ c κs. search needs) (λ c. search (needs, zeroed-miss)) (λ c. search needs) (λ c. search needs) loop-again (λ c. search (needs, zeroed-all)))

@@ -7,5 +7,4 @@ use Rattle.forms.proofs.put_input.Tie as tie
 pub put-input-spec : {M : Type 1} → statement M
 put-input-spec =
     tie.close
-    (tie.spec (λ c. search needs) (λ c. search needs) (λ c κs. search needs) (λ c. search needs) (λ c. search needs) (λ c κs. search needs) (λ c. search needs)
-    (λ c κs. search needs) (λ c. search needs) (λ c. search put-input))
+    (tie.spec (λ c. search needs) (λ c. search needs) (λ c κs. search needs) (λ c. search needs) (λ c κs. search needs) (λ c. search needs) (λ c. search (needs, put-input)))

@@ -1,13 +1,13 @@
 //! Rules built by hand and at random, and test 3 written out plainly.
 #![allow(dead_code)]
 
-use second::{open, records, Input, Record, Session};
+use second::{open, records, Input, Record, Session, Word};
 
 pub const FALSE: Input = Input { kind: 0, value: 0 };
 pub const FREE_TRUTH: Input = Input { kind: 2, value: 0 };
 pub const FREE_WORD: Input = Input { kind: 3, value: 0 };
 
-pub fn word(value: u16) -> Input {
+pub fn word(value: Word) -> Input {
     Input { kind: 1, value }
 }
 

@@ -5,6 +5,7 @@ use crate::evaluations::Pair;
 use crate::made::{free_inputs, Made, FREE_TRUTH};
 use crate::tally::Tally;
 use crate::tree::{abort, bind, call, error, operator, place, procedure, test, truth, word, Tree};
+use second::Word;
 
 pub fn all(tally: &mut Tally) {
     operators_on_choices(tally);
@@ -21,7 +22,7 @@ fn tried(tally: &mut Tally, tree: &Tree) {
 }
 
 /// A choice by the truth at a place, which is a word or a truth.
-fn choice(place: u16, value: u16) -> Tree {
+fn choice(place: u16, value: Word) -> Tree {
     test(place, word(value), truth(true))
 }
 

@@ -4,7 +4,7 @@ use crate::compare::{compare_open, compare_run};
 use crate::made::{free_inputs, word_input, FALSE, FREE_TRUTH, FREE_WORD, TRUE};
 use crate::tally::Tally;
 use crate::tree::truth;
-use second::Input;
+use second::{Input, Word};
 
 pub fn all(tally: &mut Tally) {
     table_bytes(tally);
@@ -32,7 +32,7 @@ fn input_values(tally: &mut Tally) {
     for at in 0..16 {
         let before = inputs[at];
         for kind in [0, 1, 2, 3, 4, 255] {
-            for value in [0, 1, 2, 65_535] {
+            for value in [0, 1, 2, Word::MAX] {
                 inputs[at] = Input { kind, value };
                 let refusal = compare_open(tally, &inputs, 280);
                 let good = match kind {

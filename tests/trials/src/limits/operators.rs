@@ -6,7 +6,7 @@ use crate::made::{word_input, Made, FALSE, FREE_TRUTH, FREE_WORD};
 use crate::tally::Tally;
 use crate::tree::{bind, operator, place, procedure, test, word};
 use second::dice::record;
-use second::{Input, ResultOf};
+use second::{Input, ResultOf, Word, WIDTH};
 
 pub fn all(tally: &mut Tally) {
     on_words(tally);
@@ -14,8 +14,19 @@ pub fn all(tally: &mut Tally) {
 }
 
 /// About the ends of the words and of the shifts.
-const WORDS: [u16; 12] = [
-    0, 1, 2, 15, 16, 17, 255, 256, 32_767, 32_768, 65_534, 65_535,
+const WORDS: [Word; 12] = [
+    0,
+    1,
+    2,
+    WIDTH - 1,
+    WIDTH,
+    WIDTH + 1,
+    255,
+    256,
+    Word::MAX / 2,
+    Word::MAX / 2 + 1,
+    Word::MAX - 1,
+    Word::MAX,
 ];
 
 /// "Words are 16 bits and sums wrap. [..] (low 16 bits) [..] (the amount is taken modulo 16), [..] (16 for 0)"
@@ -35,7 +46,7 @@ fn on_words(tally: &mut Tally) {
 }
 
 /// The factory works it out, and a run does.
-fn constant(tally: &mut Tally, rule: &[u8], x: u16, y: u16) {
+fn constant(tally: &mut Tally, rule: &[u8], x: Word, y: Word) {
     let mut inputs = [FALSE; 16];
     (inputs[0], inputs[1]) = (word_input(x), word_input(y));
     evaluate(tally, &Made::open(&inputs, 40), rule, 1);
@@ -43,7 +54,7 @@ fn constant(tally: &mut Tally, rule: &[u8], x: u16, y: u16) {
 }
 
 /// A term on two free words is read.
-fn free(tally: &mut Tally, op: u8, one: bool, x: u16, y: u16) {
+fn free(tally: &mut Tally, op: u8, one: bool, x: Word, y: Word) {
     let mut inputs = [FALSE; 16];
     (inputs[0], inputs[1]) = (FREE_WORD, FREE_WORD);
     let made = Made::open(&inputs, 40);

@@ -1,5 +1,6 @@
 //! The printing program at its limits.
 
+use crate::desk::{inputs_bytes, INPUT, INPUTS, WORD};
 use crate::made::{word_input, FALSE, FREE_TRUTH, FREE_WORD};
 use crate::needs::{making_terms, needing_depth, DEEPER};
 use crate::prints::compare;
@@ -17,15 +18,9 @@ pub fn all(tally: &mut Tally) {
     table(tally);
 }
 
-/// The program's input: the inputs, each in 4 bytes, and the rule.
+/// The program's input: the inputs, as the library takes them, and the rule.
 fn input(inputs: &[Input; 16], rule: &[u8]) -> Vec<u8> {
-    let mut bytes = Vec::new();
-    for input in inputs {
-        bytes.extend([input.kind, 0]);
-        bytes.extend(input.value.to_le_bytes());
-    }
-    bytes.extend(rule);
-    bytes
+    [inputs_bytes(inputs), rule.to_vec()].concat()
 }
 
 fn expect(tally: &mut Tally, what: &str, bytes: &[u8], refused: u8) {
@@ -37,10 +32,10 @@ fn expect(tally: &mut Tally, what: &str, bytes: &[u8], refused: u8) {
 /// "An input record cut short [..] is refused by 2.", and then there is no rule: 4
 fn input_records(tally: &mut Tally) {
     let bytes = input(&[FALSE; 16], &truth(true).rule());
-    for end in [0, 1, 3, 4, 59, 60, 61, 62, 63] {
+    for end in (0..=INPUT).chain(INPUTS - INPUT - 1..INPUTS) {
         expect(tally, "inputs cut short", &bytes[..end], 2);
     }
-    for end in 64..72 {
+    for end in INPUTS..INPUTS + 8 {
         expect(tally, "a rule cut short", &bytes[..end], 4);
     }
     expect(tally, "a whole rule", &bytes, 0);
@@ -54,9 +49,9 @@ fn input_records(tally: &mut Tally) {
 fn second_bytes(tally: &mut Tally) {
     for rule in [truth(true).rule(), vec![]] {
         for at in 0..16 {
-            for byte in [1, 255] {
+            for (zero, byte) in (1..WORD).flat_map(|zero| [(zero, 1), (zero, 255)]) {
                 let mut bytes = input(&[FALSE; 16], &rule);
-                bytes[4 * at + 1] = byte;
+                bytes[INPUT * at + zero] = byte;
                 expect(tally, "a second byte", &bytes, 2);
             }
         }
@@ -83,11 +78,11 @@ fn opening(tally: &mut Tally) {
 fn rule_bytes(tally: &mut Tally) {
     let bytes = input(&[FALSE; 16], &long_rule(4_097));
     expect(tally, "4,097 records", &bytes, 4);
-    expect(tally, "a byte too many", &bytes[..64 + 32_769], 4);
+    expect(tally, "a byte too many", &bytes[..INPUTS + 32_769], 4);
     let bytes = input(&[FALSE; 16], &long_rule(4_096));
     // nested deeper than the allowance
     expect(tally, "4,096 records", &bytes, 12);
-    expect(tally, "7 bytes of a record", &bytes[..64 + 32_767], 4);
+    expect(tally, "7 bytes of a record", &bytes[..INPUTS + 32_767], 4);
 }
 
 /// "allowance 100"

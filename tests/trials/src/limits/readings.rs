@@ -9,7 +9,7 @@ use crate::made::{Made, FREE_TRUTH};
 use crate::tally::Tally;
 use crate::tree::place;
 use second::dice::record;
-use second::ResultOf;
+use second::{ResultOf, Word};
 
 pub fn all(tally: &mut Tally) {
     numbers(tally);
@@ -28,7 +28,7 @@ const GOOD: ResultOf = ResultOf {
 };
 
 /// With a work list that is long enough.
-fn read(tally: &mut Tally, made: &Made, numbers: &[u16; 16], result: &ResultOf) -> u8 {
+fn read(tally: &mut Tally, made: &Made, numbers: &[Word; 16], result: &ResultOf) -> u8 {
     let work = usize::from(made.session.count);
     compare_read(tally, &made.session, &made.table, numbers, result, work)
 }
@@ -37,7 +37,7 @@ fn read(tally: &mut Tally, made: &Made, numbers: &[u16; 16], result: &ResultOf) 
 fn numbers(tally: &mut Tally) {
     let made = every_kind();
     for at in 0..16 {
-        for number in [0, 1, 2, 3, 65_535] {
+        for number in [0, 1, 2, 3, Word::MAX] {
             let mut numbers = [0; 16];
             numbers[at] = number;
             for value in [FREE_TRUTH_TERM, FREE_WORD_TERM, NINE, LAST_TRUTH_TERM] {

@@ -6,8 +6,8 @@ use crate::made::{Made, FALSE};
 use crate::rules::long_rule;
 use crate::tally::Tally;
 use crate::tree::{bind, call, operator, place, procedure, test, truth, word, Tree};
-use second::dice::{record, rule};
-use second::Record;
+use second::dice::{datum, record, rule};
+use second::{Record, Word};
 
 pub fn all(tally: &mut Tally) {
     rule_bytes(tally);
@@ -116,7 +116,7 @@ fn data(tally: &mut Tally) {
     for op in [3, 4, 255] {
         refused(tally, "no datum", &[record(1, op, 0, 0, 0)], 5);
     }
-    refused(tally, "a word", &[record(1, 2, 65_535, 0, 0)], 0);
+    refused(tally, "a word", &[datum(Word::MAX)], 0);
 }
 
 /// "5 operator op on places p and q": the codes are 1 to 15.
