@@ -96,11 +96,11 @@ branches-more : {ns : List ℕ} {ts : List Term} {o : Seen} {bs : List Branch} {
 branches-more no-branch h = also h no-branch
 branches-more (also k r) h = also k (branches-more r h)
 
-any-more : (xs : List BranchReading) (x : BranchReading) → any (xs ++ (x ∷ [])) ≡ (any xs || x .g)
-any-more [] x = or-false (x .g)
-any-more (y ∷ ys) x = ap (λ u. y .g || u) (any-more ys x) ∙ go (y .g)
+any-more : (xs : List BranchReading) (x : BranchReading) → any (xs ++ (x ∷ [])) ≡ (any xs || x .guard)
+any-more [] x = or-false (x .guard)
+any-more (y ∷ ys) x = ap (λ u. y .guard || u) (any-more ys x) ∙ go (y .guard)
   where
-    go : (b : Bool) → (b || (any ys || x .g)) ≡ ((b || any ys) || x .g)
+    go : (b : Bool) → (b || (any ys || x .guard)) ≡ ((b || any ys) || x .guard)
     go true = refl
     go false = refl
 
