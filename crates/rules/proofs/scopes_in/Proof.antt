@@ -1,45 +1,54 @@
--- `rules::scopes` meets its contract. The loop's invariant: the records before `i` are in scope, and the list is the bindings that they tell.
--- The measure is what is left of `n`. Assumes nothing.
+-- `rules::scopes_in` meets its contract. The loop's invariant: the records before `i` are in scope, and the list has the bindings that they tell,
+-- and stays as long as it was. The measure is what is left of `n`. Assumes nothing.
 use borrow.Author.Needs.{needs}
 use borrow.Author.Tests.{not-false}
-use mathlib.Core.Path.{_≡_, sym}
+use mathlib.Core.Path.{_≡_, _∙_}
 use mathlib.Core.Bool.{true}
 use Prim.Native.Nat.{_≤_, _-_}
 use native.Mathlib.Omega.{arith}
+use lib.ListN.{length}
 use Rattle.semantics.specs.Rules.{upTo, bindingsBelow, scopedOf}
 use Rattle.rules.proofs.Follow.{up-start, up-next}
-use Rattle.rules.proofs.Bindings.{scoping, bindings-start, bindings-length, binding-low, scoped-by, bindings-next}
-use Rattle.rules.proofs.scopes.Statement.{statement}
-use Rattle.rules.proofs.scopes.Tie as tie
+use Rattle.rules.proofs.Bindings.{Same, scoping, told-start, binding-low, scoped-by, told-next}
+use Rattle.rules.proofs.scopes_in.Statement.{statement}
+use Rattle.rules.proofs.scopes_in.Tie as tie
 
 abbrev Inv-loop : tie.InvT-loop
-Inv-loop rule n bindings₀ i₀ bindings i = ((i ≤ n) × (upTo i (scopedOf rule) ≡ true)) × (bindings ≡ bindingsBelow rule i)
+Inv-loop rule n bindings₀ i₀ bindings i = ((i ≤ n) × (upTo i (scopedOf rule) ≡ true)) × (Same n bindings (bindingsBelow rule i) × (length bindings ≡ length bindings₀))
 
 abbrev μ-loop : tie.MeasureT-loop
 μ-loop rule n bindings₀ i₀ bindings i = n - i
 
 loop-holds : tie.Need-loop-holds Inv-loop μ-loop
-loop-holds c = ((search needs, up-start _), bindings-start _)
+loop-holds c = ((search needs, up-start _), (told-start _ _ (c .before .before .pre .1) (c .before .before .pre .0), search needs))
+
+slice-read-d : tie.Need-slice-read-d Inv-loop μ-loop
+slice-read-d c =
+    let t = c .before .before in
+    omega (arith, t .loop-test .taken, t .before .loop .inv .1 .0 .long)
 
 add-placed : tie.Need-add-placed Inv-loop μ-loop
-add-placed c = omega (arith, binding-low _ _ (c .before .before .loop .inv .1))
-
-slice-aggregate-tell : tie.Need-slice-aggregate-tell Inv-loop μ-loop
-slice-aggregate-tell c = rw (c .before .before .before .before .before .loop .inv .1) (sym (bindings-length _ _))
+add-placed c =
+    let t = c .before .before in
+    omega (arith, t .loop-test .taken, t .before .before .before .before .pre .0, binding-low _ _ _ (t .before .loop .inv .1 .0) (t .loop-test .taken))
 
 tell-requires : tie.Need-tell-requires Inv-loop μ-loop
-tell-requires c κs = (search needs, omega (arith, binding-low _ _ (c .before .before .before .before .before .before .loop .inv .1)))
+tell-requires c κs =
+    let t = c .before .before .before .before .before .before in
+    (c .children-of .ensures .1, omega (arith, t .loop-test .taken, t .before .before .before .before .pre .0, binding-low _ _ _ (t .before .loop .inv .1 .0) (t .loop-test .taken)))
 
 loop-again : tie.Need-loop-again Inv-loop μ-loop
 loop-again c =
-    let p = c .before .before .before .before .before in
-    let l = p .before .before .before .loop .inv in
-    let w = scoped-by _ _ (l .1) (p .before .record-at .ensures) (p .placed .ensures) (not-false (p .placed .result) (c .before .before .before .before .if1 .left)) in
-    ((search needs, up-next _ _ (l .0 .1) w), bindings-next _ _ (l .1) (p .before .record-at .ensures) (c .before .before .children-of .ensures .0) (c .before .tell .ensures))
+    let p = c .before .before .before .before .before .before in
+    let t = p .before .before .before in
+    let l = t .before .loop .inv in
+    let x = p .before .before .record-at .ensures in
+    let w = scoped-by _ _ _ (l .1 .0) (t .loop-test .taken) x (p .placed .ensures) (not-false (p .placed .result) (c .before .before .before .before .before .if1 .left)) in
+    ((search needs, up-next _ _ (l .0 .1) w), (told-next _ _ _ (l .1 .0) (t .loop-test .taken) x (c .before .before .before .children-of .ensures .0) (c .before .before .tell .ensures), c .before .bindings .given ∙ l .1 .1))
 
-pub scopes-spec : {M : Type 1} → statement M
-scopes-spec =
+pub scopes-in-spec : {M : Type 1} → statement M
+scopes-in-spec =
     tie.close
-    (tie.spec Inv-loop μ-loop loop-holds (λ c κs. search needs) (λ c. search needs) (λ c. search needs) (λ c. search needs) add-placed (λ c κs. search needs)
-    (λ c. search scoping) slice-aggregate-tell (λ c κs. search needs) tell-requires (λ c. search needs) (λ c. search needs) loop-again
+    (tie.spec Inv-loop μ-loop loop-holds (λ c κs. search needs) (λ c. search needs) (λ c. search needs) slice-read-d add-placed (λ c κs. search needs)
+    (λ c. search needs) (λ c. search scoping) (λ c κs. search needs) tell-requires (λ c. search needs) (λ c. search needs) loop-again (λ c. search needs)
     (λ c. search scoping))
