@@ -28,7 +28,7 @@ use Rattle.terms.proofs.Image.{image-whole}
 use Rattle.typing.proofs.Ruled.{ruled}
 use Rattle.typing.proofs.Does.{Post, did, not-did}
 use Rattle.typing.proofs.Evaluation.{eval-does}
-use Rattle.sessions.specs.Entered.{Enters}
+use Rattle.fitting.specs.Opens.{Enters}
 use Rattle.sessions.proofs.Facts.{Fitting, fitting}
 
 post-same : {A : Type 0} {n : ℕ} {ts : List Term} {Q : List Term → A → Type 0} (x y : Got A) → Post n ts Q x y → x ≡ y
