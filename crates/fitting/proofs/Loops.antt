@@ -1,19 +1,15 @@
--- Tests over the terms of a table, from the newest down, and over a slice's tail: each way through a loop, given that what is left of the test
--- decides it (`z` is what the whole test gives). Assumes nothing.
+-- Tests over the terms of a table, from the newest down: each way through a loop, given that what is left of the test decides it (`z` is what the
+-- whole test gives). Assumes nothing.
 use mathlib.Core.Path.{_≡_}
 use mathlib.Core.Bool.{Bool, true, false, _&&_}
 use mathlib.Core.List.{List}
-use Prim.Native.Nat.{ℕ, zero, suc, _+_, _-_, _<_, _≤_}
-use native.Mathlib.Numerals.{add-one}
+use Prim.Native.Nat.{ℕ, zero, suc, _-_, _<_, _≤_}
 use native.Mathlib.Omega.{arith}
-use lib.ListN.{length, getD, take, drop, drop-of-length-le}
-use lib.Seq.{drop-cons}
-use lib.Dec.{eqb}
-use borrow.Author.Tests.{eq-eqb, ne-eqb}
-use Rattle.notation.specs.Notation.{pick, if_then_else_, every}
+use lib.ListN.{take}
+use Rattle.notation.specs.Notation.{pick, if_then_else_}
 use Rattle.semantics.specs.declared.Term.{Term}
 use Rattle.semantics.specs.Terms.{termAt, termsIn, sameOf}
-use Rattle.semantics.specs.Fits.{sameTerms, noFree, isZero}
+use Rattle.semantics.specs.Fits.{sameTerms, noFree}
 
 module _ (s y : List ℕ) {z : Bool} where
   pub same-end : (i : ℕ) → sameTerms (termsIn s i) (termsIn y i) ≡ z → i ≤ 0 → true ≡ z
@@ -52,27 +48,3 @@ module _ (s : List ℕ) (n : ℕ) {z : Bool} where
 
     pub free-miss : b ≡ false → false ≡ z
     free-miss g = rw g at (next-free i inv h et eb)
-
-module _ (s : List ℕ) {z : Bool} (i : ℕ) (b : Bool) (inv : pick b (every isZero (drop i s)) false ≡ z) where
-  pub zero-end : length s ≤ i → b ≡ z
-  unfolding every
-  zero-end h = go b (rw (drop-of-length-le s h) at inv)
-    where
-      go : (b : Bool) → pick b true false ≡ z → b ≡ z
-      go true e = e
-      go false e = e
-
-  module _ (h : i < length s) where
-    left : every isZero (drop i s) ≡ pick (eqb (getD s i 0) 0) (every isZero (drop (i + 1) s)) false
-    unfolding every isZero if_then_else_
-    left = rw (add-one, drop-cons s i 0 h)
-
-    pub zero-next : getD s i 0 ≡ 0 → pick b (every isZero (drop (i + 1) s)) false ≡ z
-    zero-next e = rw (left, eq-eqb _ _ e) at inv
-
-    pub zero-miss : (getD s i 0 ≡ 0 → ⊥) → pick false (every isZero (drop (i + 1) s)) false ≡ z
-    zero-miss e = go b (rw (left, ne-eqb _ _ e) at inv)
-      where
-        go : (b : Bool) → pick b false false ≡ z → false ≡ z
-        go true e = e
-        go false e = e

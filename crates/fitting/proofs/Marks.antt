@@ -3,10 +3,11 @@
 use mathlib.Core.Path.{_≡_, refl, sym, ap, _∙_}
 use mathlib.Core.Bool.{Bool, true, false, not, _&&_, and-false}
 use mathlib.Core.List.{List, _∷_}
-use Prim.Native.Nat.{ℕ, zero, suc, _+_, _-_, _*_, _/_, _%_, _<_, _≤_}
+use Prim.Native.Nat.{ℕ, zero, suc, _+_, _-_, _*_, _/_, _%_, _<_, _≤_, min}
 use native.Mathlib.Nat.{add-mul-mod-self-left, mod-eq-of-lt}
 use native.Mathlib.Numerals.{add-one}
 use native.Mathlib.Omega.{arith}
+use lib.Bits.{bitAnd, and-le-l, and-le-r}
 use lib.ListN.{length, getD, set, length-set, replicate, length-replicate}
 use lib.Seq.{getD-set-same, getD-set-other}
 use lib.Dec.{eqb}
@@ -18,46 +19,58 @@ use Rattle.semantics.specs.Numbers.{wordTerm}
 use Rattle.semantics.specs.Terms.{term, termAt, termsIn, sameOf, findOf, laidOut, wellFormed}
 use Rattle.terms.specs.Search.{findAbove}
 use Rattle.typing.proofs.Formed.{never, same-true, find-same}
-use Rattle.fitting.specs.Formed.{markCount, firstFactor, timesOf, markOf}
+use Rattle.fitting.specs.Formed.{markCount, firstFactor, timesOf, markOf, Holds}
 
--- ---- the marks by a factor
+-- ---- the marks by a factor, of which the bits of `bits` are kept
 
-pub mark-inside : (f : ℕ) (t : Term) {k : ℕ} → k ≡ markOf f t → k < markCount
+abbrev kept : ℕ → ℕ → Term → ℕ
+kept f bits t = bitAnd (markOf f t) bits
+
+kept-held : (f bits : ℕ) (t : Term) (m : List Bool) → Holds bits m → kept f bits t < length m
 unfolding markOf
-mark-inside f t e = omega arith
+kept-held f bits t m h = omega (arith, h .room, and-le-l (markOf f t) bits, and-le-r (markOf f t) bits)
+
+-- a list of so many marks
+pub held : (bits k : ℕ) → min bits (markCount - 1) < k → Holds bits (replicate k false)
+held bits k h = record { room = rw (length-replicate {A = Bool} k false) h }
 
 -- the terms of ts have their marks set: one whose mark is not set is none of them
-pub record Marked (f : ℕ) (ts : List Term) (m : List Bool) : Type 0 where
-  pub long : length m ≡ markCount
-  pub unset : (t : Term) → getD m (markOf f t) false ≡ false → findOf ts t .is ≡ false
+pub record Marked (f bits : ℕ) (ts : List Term) (m : List Bool) : Type 0 where
+  pub holds : Holds bits m
+  pub unset : (t : Term) → getD m (kept f bits t) false ≡ false → findOf ts t .is ≡ false
 
-pub marked-start : (f : ℕ) (s : List ℕ) → Marked f (termsIn s 0) (replicate markCount false)
+pub mark-inside : (f bits : ℕ) (t : Term) {ts : List Term} {m : List Bool} → Marked f bits ts m → {k : ℕ} → k ≡ markOf f t → bitAnd k bits < length m
+mark-inside f bits t {m = m} g e = rw e (kept-held f bits t m (g .holds))
+
+-- no term has a mark that could be missing
+pub marked-start : (f bits : ℕ) (s : List ℕ) {m : List Bool} → Holds bits m → Marked f bits (termsIn s 0) m
 unfolding termsIn findOf
-marked-start f s = record { long = length-replicate markCount false; unset = λ t h. refl }
+marked-start f bits s h = record { holds = h; unset = λ t e. refl }
 
 -- one term more, and its mark
-marked-more : (f : ℕ) (t : Term) (ts : List Term) (m : List Bool) → Marked f ts m → Marked f (t ∷ ts) (set m (markOf f t) true)
+marked-more : (f bits : ℕ) (t : Term) (ts : List Term) (m : List Bool) → Marked f bits ts m → Marked f bits (t ∷ ts) (set m (kept f bits t) true)
 unfolding findOf
-marked-more f t ts m g = record { long = simp length-set (g .long); unset = λ u h. go u (eqb (markOf f u) (markOf f t)) refl h }
+marked-more f bits t ts m g = record { holds = record { room = simp length-set (g .holds .room) }; unset = λ u h. go u (eqb (kept f bits u) (kept f bits t)) refl h }
   where
-    new : getD (set m (markOf f t) true) (markOf f t) false ≡ true
-    new = getD-set-same m (markOf f t) true false (omega (arith, mark-inside f t refl, g .long))
+    new : getD (set m (kept f bits t) true) (kept f bits t) false ≡ true
+    new = getD-set-same m (kept f bits t) true false (kept-held f bits t m (g .holds))
 
-    other : (u : Term) → (markOf f u ≡ markOf f t → ⊥) → findOf ts u .is ≡ false → (b : Bool) → sameOf t u ≡ b
+    other : (u : Term) → (kept f bits u ≡ kept f bits t → ⊥) → findOf ts u .is ≡ false → (b : Bool) → sameOf t u ≡ b
         → pick b (record { is = true; at = length ts }) (findOf ts u) .is ≡ false
-    other u n o true e = absurd (n (ap (markOf f) (sym (same-true t u e))))
+    other u n o true e = absurd (n (ap (kept f bits) (sym (same-true t u e))))
     other u n o false e = o
 
-    go : (u : Term) (b : Bool) → eqb (markOf f u) (markOf f t) ≡ b → getD (set m (markOf f t) true) (markOf f u) false ≡ false
+    go : (u : Term) (b : Bool) → eqb (kept f bits u) (kept f bits t) ≡ b → getD (set m (kept f bits t) true) (kept f bits u) false ≡ false
         → findOf (t ∷ ts) u .is ≡ false
-    go u true q h = never (sym (rw (eqb-true (markOf f u) (markOf f t) q) at h) ∙ new)
+    go u true q h = never (sym (rw (eqb-true (kept f bits u) (kept f bits t) q) at h) ∙ new)
     go u false q h =
-        let n = eqb-false (markOf f u) (markOf f t) q in
-        other u n (g .unset u (sym (getD-set-other m (markOf f t) (markOf f u) true false n) ∙ h)) (sameOf t u) refl
+        let n = eqb-false (kept f bits u) (kept f bits t) q in
+        other u n (g .unset u (sym (getD-set-other m (kept f bits t) (kept f bits u) true false n) ∙ h)) (sameOf t u) refl
 
-pub marked-next : (f : ℕ) (s : List ℕ) (i : ℕ) {m : List Bool} {t : Term} {k : ℕ} → Marked f (termsIn s i) m → t ≡ termAt s i → k ≡ markOf f t → Marked f (termsIn s (i + 1)) (set m k true)
+pub marked-next : (f bits : ℕ) (s : List ℕ) (i : ℕ) {m : List Bool} {t : Term} {k : ℕ} → Marked f bits (termsIn s i) m → t ≡ termAt s i → k ≡ markOf f t
+    → Marked f bits (termsIn s (i + 1)) (set m (bitAnd k bits) true)
 unfolding termsIn
-marked-next f s i {m} g et ek = rw (ek, et, add-one) (marked-more f (termAt s i) (termsIn s i) m g)
+marked-next f bits s i {m} g et ek = rw (ek, et, add-one) (marked-more f bits (termAt s i) (termsIn s i) m g)
 
 -- ---- the search
 
@@ -66,11 +79,11 @@ pub searched : {a b : Bool} {x y : Found} → a ≡ true → b ≡ true → x �
 searched h k e = rw (h, k, e)
 
 -- made only where both marks are set, it finds what the definition's finds
-found-by : (f g n : ℕ) (t : Term) (ts : List Term) (l m : List Bool) → wellFormed n ts ≡ true → Marked f ts l → Marked g ts m
-    → (getD l (markOf f t) false && (getD m (markOf g t) false && findAbove ts t .is)) ≡ findOf ts t .is
-found-by f g n t ts l m w p q = go (getD l (markOf f t) false) (getD m (markOf g t) false) refl refl
+found-by : (f g bits n : ℕ) (t : Term) (ts : List Term) (l m : List Bool) → wellFormed n ts ≡ true → Marked f bits ts l → Marked g bits ts m
+    → (getD l (kept f bits t) false && (getD m (kept g bits t) false && findAbove ts t .is)) ≡ findOf ts t .is
+found-by f g bits n t ts l m w p q = go (getD l (kept f bits t) false) (getD m (kept g bits t) false) refl refl
   where
-    go : (a b : Bool) → getD l (markOf f t) false ≡ a → getD m (markOf g t) false ≡ b → (a && (b && findAbove ts t .is)) ≡ findOf ts t .is
+    go : (a b : Bool) → getD l (kept f bits t) false ≡ a → getD m (kept g bits t) false ≡ b → (a && (b && findAbove ts t .is)) ≡ findOf ts t .is
     go true true h k = ap (λ (x : Found). x .is) (find-same n t ts w)
     go true false h k = sym (q .unset t k)
     go false b h k = sym (p .unset t h)
@@ -102,12 +115,12 @@ module _ (n : ℕ) (s : List ℕ) where
     unfolding wellFormed termsIn
     formed-miss l h c = formed-stop i l h (rw (← et, ← eb, c))
 
-    module _ (c : b ≡ true) (f g : ℕ) {x y : List Bool} (p : Marked f (termsIn s i) x) (q : Marked g (termsIn s i) y) {j k : ℕ} (ej : j ≡ markOf f t) (ek : k ≡ markOf g t)
-        {r : Bool} (er : r ≡ (getD x j false && (getD y k false && findAbove (termsIn s i) t .is))) where
+    module _ (c : b ≡ true) (f g bits : ℕ) {x y : List Bool} (p : Marked f bits (termsIn s i) x) (q : Marked g bits (termsIn s i) y) {j k : ℕ} (ej : j ≡ markOf f t) (ek : k ≡ markOf g t)
+        {r : Bool} (er : r ≡ (getD x (bitAnd j bits) false && (getD y (bitAnd k bits) false && findAbove (termsIn s i) t .is))) where
       -- the newest decides, since it is laid out
       newest : wellFormed n (termsIn s (suc i)) ≡ not r
       unfolding wellFormed termsIn
-      newest = rw (← et, ← eb, c, w, er, ej, ek, found-by f g n t (termsIn s i) x y w p q) (go (findOf (termsIn s i) t .is))
+      newest = rw (← et, ← eb, c, w, er, ej, ek, found-by f g bits n t (termsIn s i) x y w p q) (go (findOf (termsIn s i) t .is))
         where
           go : (d : Bool) → (not d && true) ≡ not d
           go true = refl

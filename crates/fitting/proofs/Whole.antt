@@ -4,8 +4,6 @@ use mathlib.Core.Bool.{Bool, true, false}
 use mathlib.Core.List.{List}
 use Prim.Native.Nat.{ℕ, _-_}
 use lib.ListN.{length, replicate}
-use Rattle.notation.specs.Notation.{every}
-use Rattle.semantics.specs.declared.Term.{Term}
 use Rattle.semantics.specs.declared.Input.{Input}
 use Rattle.semantics.specs.declared.Session.{Session}
 use Rattle.semantics.specs.Numbers.{leastTable}
@@ -17,6 +15,7 @@ use Rattle.terms.specs.Gives.{Gives}
 use Rattle.opening.specs.Openings.{openAll}
 use Rattle.opening.proofs.Opened.{terms, environment}
 use Rattle.fitting.specs.Formed.{openingFits}
+use Rattle.fitting.specs.Opens.{Opens}
 
 zeros : _≡_ {A = List ℕ} (replicate leastTable 0) (wiped (replicate leastTable 0) 0)
 unfolding wiped
@@ -36,14 +35,14 @@ module _ (x : Session) (s : List ℕ) {b : Bool} (eb : b ≡ badTableSize (lengt
     unfolding fitsOf
     misfit-input k = rw (← eb, h, ← ed, k)
 
-    pub fits-on : d ≡ true → {os : List Term} → (every inputTaken (x .inputs) ≡ true → os ≡ opening (x .inputs) .terms) → {v : Bool} → v ≡ openingFits x s os → v ≡ fitsOf x s
+    pub fits-on : d ≡ true → {y : List ℕ} {c e : ℕ} → Opens (x .inputs) y c e → {v : Bool} → v ≡ openingFits x s (termsIn y c) → v ≡ fitsOf x s
     unfolding fitsOf
-    fits-on k o ev = rw (← eb, h, ← ed, k, ← o (sym ed ∙ k)) ev
+    fits-on k o ev = rw (← eb, h, ← ed, k, ← o .terms (sym ed ∙ k)) ev
 
--- the opening's terms, made on 34 records of zeros
-pub fresh-terms : (xs : List Input) → length xs ≡ 16 → {r c e : ℕ} {y : List ℕ} → Gives (openAll xs) (replicate leastTable 0) 0 r c 0 e y → every inputTaken xs ≡ true → termsIn y c ≡ opening xs .terms
-fresh-terms xs n g t = terms xs (replicate leastTable 0) (replicate leastTable 0) zeros enough t n g
-
--- input 0's binding among the opening's terms, made on 34 records of zeros
-pub fresh-environment : (xs : List Input) → length xs ≡ 16 → {r c e : ℕ} {y : List ℕ} → Gives (openAll xs) (replicate leastTable 0) 0 r c 0 e y → every inputTaken xs ≡ true → e ≡ opening xs .environment
-fresh-environment xs n g t = environment xs (replicate leastTable 0) (replicate leastTable 0) zeros enough t n g
+-- the opening made on 34 records of zeros
+pub fresh : (xs : List Input) → length xs ≡ 16 → {r c e : ℕ} {y : List ℕ} → Gives (openAll xs) (replicate leastTable 0) 0 r c 0 e y → Opens xs y c e
+fresh xs n g =
+    record {
+      terms = λ t. terms xs (replicate leastTable 0) (replicate leastTable 0) zeros enough t n g;
+      start = record { sixteen = n; is = λ t. environment xs (replicate leastTable 0) (replicate leastTable 0) zeros enough t n g };
+    }

@@ -1,5 +1,5 @@
 -- Test 3 as the code goes about it: a term is searched for among those below it only where they have its marks. Assumes nothing.
-use Prim.Native.Nat.{ℕ, _+_, _*_, _-_, _%_}
+use Prim.Native.Nat.{ℕ, _+_, _*_, _-_, _%_, _<_, min}
 use mathlib.Core.Bool.{Bool, _&&_, _||_}
 use mathlib.Core.List.{List}
 use lib.Dec.{eqb, ltb, leb}
@@ -55,7 +55,14 @@ timesOf x y = (x * y) % markCount
 unfoldable pub markOf : ℕ → Term → ℕ
 markOf k t = timesOf (t .a + timesOf k (t .b + timesOf k (t .c))) (t .op + 1 + timesOf k (t .kind))
 
+-- a list has a place for every mark of which the bits of `bits` are kept
+pub record Holds (bits : ℕ) (m : List Bool) : Type 0 where
+  pub room : min bits (markCount - 1) < length m
+
 -- ---- test 3, cut where the code cuts it
+
+abbrev pub fourZero : List ℕ → List ℕ → List ℕ → List ℕ → Bool
+fourZero x y z w = every isZero x && (every isZero y && (every isZero z && every isZero w))
 
 -- "a formula is no truth below the count, or the accepted count is over 1,000"
 abbrev pub formulasFit : Session → List Term → Bool

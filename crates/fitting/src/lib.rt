@@ -1,5 +1,6 @@
 // Test 3: whether a session and a table fit. It goes once over the table, searching for repeats only where a term's
-// mark is set already, and makes the opening's terms anew to compare them. No public function has a `requires`.
+// marks are set already, and makes the opening's terms anew to compare them. What it clears grows with the count of
+// terms. No public function has a `requires`.
 use semantics::Input;
 use semantics::Session;
 use semantics::Term;
@@ -8,21 +9,15 @@ ghost use mathlib.Core.Bool.{true, _&&_};
 ghost use mathlib.Core.Path.{_≡_};
 ghost use Prim.Native.Nat.{_-_};
 ghost use lib.Dec.{eqb};
-ghost use lib.ListN.{take, drop};
+ghost use lib.ListN.{length, take, drop};
 ghost use Rattle.notation.specs.Notation.{every};
 ghost use Rattle.semantics.specs.Terms.{wordLaid, termsIn, namesTruth, namesChoice, namesBinding, namesValue, operandsLaidOut, laidOut, wellFormed};
-ghost use Rattle.semantics.specs.Opening.{inputTaken, opening};
 ghost use Rattle.semantics.specs.Fits.{sameTerms, noFree, isZero, fitsOf};
 ghost use Rattle.terms.specs.Search.{findAbove};
-ghost use Rattle.fitting.specs.Formed.{onlyA, choiceLaid, procedureLaid, nextLaid, bindingLaid, wordsLaid, timesOf, markOf, formulasFit, recordsFit, openingFits};
+ghost use Rattle.fitting.specs.Formed.{onlyA, choiceLaid, procedureLaid, nextLaid, bindingLaid, wordsLaid, timesOf, markOf, Holds, fourZero, formulasFit, recordsFit, openingFits};
+ghost use Rattle.fitting.specs.Opens.{Enters, Opens};
 
-// Whether a number names a lower truth: one of the first n terms.
-pub fn names_truth(table: &[u8], n: u16, x: u16) -> bool
-    ensures { λ r. ⌜ r ≡ namesTruth (termsIn (now (table .entry)) n) x ⌝ }
-{
-    terms::sort_at(table, n, x) == numbers::TRUTH_TERM
-}
-
+// Whether a number names a choice among the first n terms.
 fn names_choice(table: &[u8], n: u16, x: u16) -> bool
     ensures { λ r. ⌜ r ≡ namesChoice (termsIn (now (table .entry)) n) x ⌝ }
 {
@@ -35,26 +30,15 @@ fn names_binding(table: &[u8], n: u16, x: u16) -> bool
     terms::sort_at(table, n, x) == numbers::BINDING_TERM
 }
 
-// Anything but a binding.
-pub fn names_value(table: &[u8], n: u16, x: u16) -> bool
-    ensures { λ r. ⌜ r ≡ namesValue (termsIn (now (table .entry)) n) x ⌝ }
-{
-    let k = terms::sort_at(table, n, x);
-    if k == 0 {
-        return false;
-    }
-    k != numbers::BINDING_TERM
-}
-
 // Of an operator 1 to 12: a second operand that there is none of is zero.
 fn words_laid(table: &[u8], n: u16, op: u8, a: u16, b: u16) -> bool
     ensures { λ r. ⌜ r ≡ wordsLaid (termsIn (now (table .entry)) n) op a b ⌝ }
 {
-    if names_value(table, n, a) {
+    if terms::names_value(table, n, a) {
         if operators::operands(op) == 1 {
             return b == 0;
         }
-        return names_value(table, n, b);
+        return terms::names_value(table, n, b);
     }
     false
 }
@@ -62,8 +46,8 @@ fn words_laid(table: &[u8], n: u16, op: u8, a: u16, b: u16) -> bool
 fn two_truths(table: &[u8], n: u16, a: u16, b: u16) -> bool
     ensures { λ r. ⌜ r ≡ (namesTruth (termsIn (now (table .entry)) n) a && namesTruth (termsIn (now (table .entry)) n) b) ⌝ }
 {
-    if names_truth(table, n, a) {
-        names_truth(table, n, b)
+    if terms::names_truth(table, n, a) {
+        terms::names_truth(table, n, b)
     } else {
         false
     }
@@ -72,7 +56,7 @@ fn two_truths(table: &[u8], n: u16, a: u16, b: u16) -> bool
 fn one_truth(table: &[u8], n: u16, a: u16, b: u16) -> bool
     ensures { λ r. ⌜ r ≡ (namesTruth (termsIn (now (table .entry)) n) a && eqb b 0) ⌝ }
 {
-    if names_truth(table, n, a) {
+    if terms::names_truth(table, n, a) {
         b == 0
     } else {
         false
@@ -130,9 +114,9 @@ fn word_laid(t: Term) -> bool
 fn choice_laid(table: &[u8], n: u16, t: Term) -> bool
     ensures { λ r. ⌜ r ≡ choiceLaid (termsIn (now (table .entry)) n) t ⌝ }
 {
-    if names_truth(table, n, t.a) {
-        if names_value(table, n, t.b) {
-            names_value(table, n, t.c)
+    if terms::names_truth(table, n, t.a) {
+        if terms::names_value(table, n, t.b) {
+            terms::names_value(table, n, t.c)
         } else {
             false
         }
@@ -168,7 +152,7 @@ fn next_laid(table: &[u8], n: u16, b: u16) -> bool
 fn binding_laid(table: &[u8], n: u16, t: Term) -> bool
     ensures { λ r. ⌜ r ≡ bindingLaid (termsIn (now (table .entry)) n) t ⌝ }
 {
-    if names_value(table, n, t.a) {
+    if terms::names_value(table, n, t.a) {
         if next_laid(table, n, t.b) {
             t.c == 0
         } else {
@@ -216,6 +200,23 @@ fn laid_out(table: &[u8], n: u16, accepted: u16, t: Term) -> bool
 // How many marks there are by a factor: a prime above every field.
 const MARKS: usize = 65537;
 
+// As many bits as a mark can have.
+const ALL_BITS: usize = 131071;
+
+// For few terms, and for some more, the low bits of a mark are kept alone, so that there is less to clear: eight marks for
+// each term.
+const FEW: u16 = 128;
+
+const FEW_MARKS: usize = 1024;
+
+const FEW_BITS: usize = FEW_MARKS - 1;
+
+const MORE: u16 = 1024;
+
+const MORE_MARKS: usize = 8192;
+
+const MORE_BITS: usize = MORE_MARKS - 1;
+
 // The factor of a term's first mark. Both factors were chosen by trial: few terms of a table find both marks set.
 const FIRST: u32 = 17271;
 
@@ -252,20 +253,27 @@ fn repeated(table: &[u8], i: u16, t: Term, first: bool, second: bool) -> bool
     false
 }
 
-// Whether every one of the first n terms is laid out and none is repeated. Equal terms have equal marks, so that a term
-// with a mark that is not set yet is a new one.
-fn well_formed(table: &[u8], n: u16, accepted: u16) -> bool
+// Whether every one of the first n terms is laid out and none is repeated, by marks of which the bits of `bits` are
+// kept. Equal terms have equal marks, so that a term with a mark that is not set yet is a new one; a mark that was set
+// before would only cost a search.
+fn formed_by(
+    table: &[u8],
+    n: u16,
+    accepted: u16,
+    first: &mut [bool],
+    second: &mut [bool],
+    bits: usize,
+) -> bool
+    requires { ⌜ Holds bits (now first) ⌝ ∗ ⌜ Holds bits (now second) ⌝ }
     ensures { λ r. ⌜ r ≡ wellFormed accepted (termsIn (now (table .entry)) n) ⌝ }
 {
-    let mut first: [bool; MARKS] = [false; MARKS];
-    let mut second: [bool; MARKS] = [false; MARKS];
     for i in 0..n {
         let t = records::term_at(table, i);
         if laid_out(table, i, accepted, t) {} else {
             return false;
         }
-        let l = mark_of(t, FIRST);
-        let m = mark_of(t, SECOND);
+        let l = mark_of(t, FIRST) & bits;
+        let m = mark_of(t, SECOND) & bits;
         if repeated(table, i, t, first[l], second[m]) {
             return false;
         }
@@ -273,6 +281,25 @@ fn well_formed(table: &[u8], n: u16, accepted: u16) -> bool
         second[m] = true;
     }
     true
+}
+
+// The same, with as many marks as the count of terms asks for.
+fn well_formed(table: &[u8], n: u16, accepted: u16) -> bool
+    ensures { λ r. ⌜ r ≡ wellFormed accepted (termsIn (now (table .entry)) n) ⌝ }
+{
+    if n <= FEW {
+        let mut first: [bool; FEW_MARKS] = [false; FEW_MARKS];
+        let mut second: [bool; FEW_MARKS] = [false; FEW_MARKS];
+        return formed_by(table, n, accepted, &mut first, &mut second, FEW_BITS);
+    }
+    if n <= MORE {
+        let mut first: [bool; MORE_MARKS] = [false; MORE_MARKS];
+        let mut second: [bool; MORE_MARKS] = [false; MORE_MARKS];
+        return formed_by(table, n, accepted, &mut first, &mut second, MORE_BITS);
+    }
+    let mut first: [bool; MARKS] = [false; MARKS];
+    let mut second: [bool; MARKS] = [false; MARKS];
+    formed_by(table, n, accepted, &mut first, &mut second, ALL_BITS)
 }
 
 // Whether two tables begin with the same n terms.
@@ -312,27 +339,58 @@ fn none_free(table: &[u8], n: u16, count: u16) -> bool
     true
 }
 
-// Whether a slice is zero from a place on. It looks at every byte, so that a compiler can look at many at once.
-fn zero_from(s: &[u8], at: usize) -> bool
+// Whether four slices of one length are zero. It looks at every byte, so that a compiler can look at many at once.
+fn four_zero(x: &[u8], y: &[u8], z: &[u8], w: &[u8]) -> bool
+    requires { ⌜ length (now y) ≡ length (now x) ⌝ ∗ ⌜ length (now z) ≡ length (now x) ⌝ ∗ ⌜ length (now w) ≡ length (now x) ⌝ }
+    ensures { λ r. ⌜ r ≡ fourZero (now (x .entry)) (now (y .entry)) (now (z .entry)) (now (w .entry)) ⌝ }
+{
+    let mut seen: u8 = 0;
+    let mut i: usize = 0;
+    while i < x.len() {
+        seen = seen | x[i] | y[i] | z[i] | w[i];
+        i += 1;
+    }
+    seen == 0
+}
+
+// Whether a slice is zero from a place on.
+fn rest_zero(s: &[u8], at: usize) -> bool
     ensures { λ r. ⌜ r ≡ every isZero (drop at (now (s .entry))) ⌝ }
 {
-    let mut zero = true;
     let mut i = at;
     while i < s.len() {
         if s[i] != 0 {
-            zero = false;
+            return false;
         }
         i += 1;
     }
-    zero
+    true
+}
+
+// The same, where there may be much to look at: its four quarters go together, which is quicker than one after the other.
+fn zero_from(s: &[u8], at: usize) -> bool
+    ensures { λ r. ⌜ r ≡ every isZero (drop at (now (s .entry))) ⌝ }
+{
+    if s.len() <= at {
+        return true;
+    }
+    let quarter = (s.len() - at) / 4;
+    let a = at + quarter;
+    let b = a + quarter;
+    let c = b + quarter;
+    let d = c + quarter;
+    if four_zero(&s[at..a], &s[a..b], &s[b..c], &s[c..d]) {
+        return rest_zero(s, d);
+    }
+    false
 }
 
 fn formulas_fit(table: &[u8], session: Session) -> bool
     ensures { λ r. ⌜ r ≡ formulasFit session (termsIn (now (table .entry)) (session .count)) ⌝ }
 {
     let x = session.state;
-    if names_truth(table, session.count, x.assumed) {
-        if names_truth(table, session.count, x.asserted) {
+    if terms::names_truth(table, session.count, x.assumed) {
+        if terms::names_truth(table, session.count, x.asserted) {
             return session.accepted <= numbers::RULE_LIMIT;
         }
         return false;
@@ -371,20 +429,51 @@ fn opening_fits(table: &[u8], fresh: &[u8], n: u16, session: Session) -> bool
     false
 }
 
-// The terms of an opening on a table of their own, of as many records as an opening can need.
+// An opening on a table of its own, of as many records as one can need: its terms, and input 0's binding.
 struct Fresh {
     count: u16,
+    environment: u16,
     bytes: [u8; numbers::LEAST_TABLE],
 }
 
 fn fresh_opening(inputs: [Input; 16]) -> Fresh
-    ensures { λ r. ⌜ (every inputTaken inputs ≡ true → termsIn (r .bytes) (r .count) ≡ opening inputs .terms) ⌝ }
+    ensures { λ r. ⌜ Opens inputs (r .bytes) (r .count) (r .environment) ⌝ }
 {
     let mut bytes: [u8; numbers::LEAST_TABLE] = [0; numbers::LEAST_TABLE];
     let o = opening::open_all(&mut bytes, inputs);
     Fresh {
         count: o.count,
+        environment: o.number,
         bytes: bytes,
+    }
+}
+
+// Whether a session and a table fit, and where a rule starts if they do: at input 0's binding.
+pub struct Start {
+    pub fits: bool,
+    pub environment: u16,
+}
+
+// Test 3, with where a rule starts: the opening that it makes anew has that.
+pub fn start_of(session: Session, table: &[u8]) -> Start
+    ensures { λ r. ⌜ r .fits ≡ fitsOf session (now (table .entry)) ⌝ ∗ ⌜ (r .fits ≡ true → Enters (session .inputs) (r .environment)) ⌝ }
+{
+    let no = Start {
+        fits: false,
+        environment: 0,
+    };
+    if opening::bad_table_size(table.len()) {
+        return no;
+    }
+    let inputs = session.inputs;
+    if opening::inputs_taken(inputs) {} else {
+        return no;
+    }
+    let o = fresh_opening(inputs);
+    let fresh = o.bytes;
+    Start {
+        fits: opening_fits(table, &fresh, o.count, session),
+        environment: o.environment,
     }
 }
 
@@ -392,14 +481,6 @@ fn fresh_opening(inputs: [Input; 16]) -> Fresh
 pub fn fits(session: Session, table: &[u8]) -> bool
     ensures { λ r. ⌜ r ≡ fitsOf session (now (table .entry)) ⌝ }
 {
-    if opening::bad_table_size(table.len()) {
-        return false;
-    }
-    let inputs = session.inputs;
-    if opening::inputs_taken(inputs) {} else {
-        return false;
-    }
-    let o = fresh_opening(inputs);
-    let fresh = o.bytes;
-    opening_fits(table, &fresh, o.count, session)
+    let start = start_of(session, table);
+    start.fits
 }

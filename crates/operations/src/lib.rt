@@ -10,7 +10,6 @@ use words::Word;
 ghost use mathlib.Core.Path.{_≡_};
 ghost use lib.ListN.{length, replicate};
 ghost use Rattle.semantics.specs.declared.Outcome.the-variants.{Refused};
-ghost use Rattle.semantics.specs.Evaluate.{badDepth};
 ghost use Rattle.semantics.specs.Reading.{readOf};
 ghost use Rattle.semantics.specs.PlainRun.{runPlainlyOf};
 
@@ -45,16 +44,6 @@ pub fn read(
     reader::read_result(table, session.count, numbers, result, work)
 }
 
-// An allowance outside 1 to 256.
-fn bad_depth(allowance: u16) -> bool
-    ensures { λ r. ⌜ r ≡ badDepth allowance ⌝ }
-{
-    if allowance == 0 {
-        return true;
-    }
-    numbers::ALLOWANCE_LIMIT < allowance
-}
-
 // A refused run.
 fn unrun(refusal: u8, store: &mut [u8]) -> Outcome
     ensures { λ r. ⌜ r ≡ Refused refusal ⌝ ∗ ⌜ now (store .exit) ≡ replicate (length (now (store .entry))) 0 ⌝ }
@@ -83,7 +72,7 @@ pub fn run_plainly(
     if 0 < k {
         return unrun(k, store);
     }
-    if bad_depth(allowance) {
+    if rules::bad_depth(allowance) {
         return unrun(numbers::BAD_ALLOWANCE, store);
     }
     interpreter::run_in_store(inputs, numbers, rule, allowance, store)

@@ -14,7 +14,7 @@ ghost use mathlib.Core.Path.{_≡_};
 ghost use mathlib.Core.Bool.{_&&_, _||_, not};
 ghost use Prim.Native.Nat.{_≤_};
 ghost use lib.ListN.{length, getD, replicate};
-ghost use Rattle.semantics.specs.Terms.{termsIn, namesTruth, namesValue};
+ghost use Rattle.semantics.specs.Terms.{termsIn};
 ghost use Rattle.semantics.specs.Reading.{truthReading, isTrue, isTruth, isWord, passes as «passes-test», resultReading, operandsAreWords, operationReading, operatorReading, termReading, valueOutcome, resultOutcome, numbersTaken, resultTaken};
 ghost use Rattle.reader.specs.Reader.{numberTaken, outcomeIn, unpackedOf, lowerOf, Reads};
 
@@ -52,37 +52,18 @@ fn number_taken(x: Input, n: Word) -> bool
 pub fn result_taken(table: &[u8], count: u16, result: Result) -> bool
     ensures { λ r. ⌜ r ≡ resultTaken (termsIn (now (table .entry)) count) result ⌝ }
 {
-    if names_truth(table, count, result.state.assumed) {
-        if names_truth(table, count, result.state.asserted) {
+    if terms::names_truth(table, count, result.state.assumed) {
+        if terms::names_truth(table, count, result.state.asserted) {
             if result.halted {
                 true
             } else {
-                names_value(table, count, result.value)
+                terms::names_value(table, count, result.value)
             }
         } else {
             false
         }
     } else {
         false
-    }
-}
-
-// A number that is not below the count names no truth.
-fn names_truth(table: &[u8], count: u16, i: u16) -> bool
-    ensures { λ r. ⌜ r ≡ namesTruth (termsIn (now (table .entry)) count) i ⌝ }
-{
-    terms::sort_at(table, count, i) == numbers::TRUTH_TERM
-}
-
-// Anything but a binding; a number that is not below the count names nothing.
-fn names_value(table: &[u8], count: u16, i: u16) -> bool
-    ensures { λ r. ⌜ r ≡ namesValue (termsIn (now (table .entry)) count) i ⌝ }
-{
-    let k = terms::sort_at(table, count, i);
-    if k == 0 {
-        false
-    } else {
-        k != numbers::BINDING_TERM
     }
 }
 

@@ -25,8 +25,21 @@ pub fn pair(low: u8, high: u8) -> u16
     (low as u16) + 256 * (high as u16)
 }
 
-// The record with a number, of a rule.
+// The record with a number, of a rule. A whole one is cut out of its own 8 bytes, so that one bound is tested for all of
+// them.
 pub fn record_at(s: &[u8], i: u16) -> Record
+    ensures { λ r. ⌜ r ≡ recordAt (now (s .entry)) i ⌝ }
+{
+    let from = 8 * (i as usize);
+    let end = from + 8;
+    if end <= s.len() {
+        return cut(&s[from..end], 0);
+    }
+    cut(s, i)
+}
+
+// The same, with a bound tested for each byte.
+fn cut(s: &[u8], i: u16) -> Record
     ensures { λ r. ⌜ r ≡ recordAt (now (s .entry)) i ⌝ }
 {
     let at = 8 * (i as usize);

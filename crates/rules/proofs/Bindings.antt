@@ -1,11 +1,11 @@
--- The scope test: the list that the code keeps is the definition's, and its numbers are so low that no sum wraps. Assumes nothing.
+-- The scope test: the list that the code keeps has the definition's numbers, and they are so low that no sum wraps. Assumes nothing.
 use mathlib.Core.Path.{_≡_, refl, sym, _∙_}
 use mathlib.Core.Bool.{Bool, true, false}
 use mathlib.Core.List.{List, [], _∷_}
-use Prim.Native.Nat.{ℕ, zero, suc, _+_, _≤_}
+use Prim.Native.Nat.{ℕ, zero, suc, _+_, _<_, _≤_}
 use native.Mathlib.Numerals.{add-one}
 use native.Mathlib.Omega.{arith}
-use lib.ListN.{length, getD, set, length-set, replicate}
+use lib.ListN.{length, getD, set, length-set, replicate, length-replicate}
 use lib.Seq.{set-out, getD-set-same, getD-set-other}
 use lib.Dec.{eqb, ltb}
 use borrow.Author.Tests.{eqb-true, eqb-false, ltb-true, ltb-false, not-true}
@@ -15,38 +15,59 @@ use Rattle.semantics.specs.declared.Record.{Record}
 use Rattle.semantics.specs.Numbers.{procedureRecord, letRecord, ifRecord, recordLimit, inputCount}
 use Rattle.semantics.specs.Records.{recordAt}
 use Rattle.semantics.specs.Rules.{Part, partsOf, placesOf, toldOf, bindingsBelow, scopedOf}
+use Rattle.rules.specs.Passes.{Cleared}
 
 -- a store past the end of a list
 pub put-past : (m : List ℕ) (i v : ℕ) → length m ≤ i → m ≡ set m i v
 put-past m i v h = sym (set-out m i v h)
 
--- ---- the list in the code is the definition's
+-- ---- the list in the code has the definition's numbers
 
-pub bindings-start : (s : List ℕ) → replicate recordLimit 0 ≡ bindingsBelow s 0
-unfolding bindingsBelow
-bindings-start s = refl
+-- two lists have the same numbers for the first n records
+pub record Same (n : ℕ) (m y : List ℕ) : Type 0 where
+  pub long : n ≤ length m
+  pub other : n ≤ length y
+  pub is : (j : ℕ) → j < n → getD m j 0 ≡ getD y j 0
 
-pub bindings-next : (s : List ℕ) (i : ℕ) {m y : List ℕ} {x : Record} {cs : List Part}
-    → m ≡ bindingsBelow s i → x ≡ recordAt s i → cs ≡ partsOf x → y ≡ toldOf (getD m i 0) cs m → y ≡ bindingsBelow s (i + 1)
-unfolding bindingsBelow with
-bindings-next s i em ex ec ey = rw (add-one, bindingsBelow, ← em, ← ex, ← ec) ey
+same-set : (n c v : ℕ) (m y : List ℕ) → Same n m y → Same n (set m c v) (set y c v)
+same-set n c v m y g = record { long = simp length-set (g .long); other = simp length-set (g .other); is = λ j h. go j h (eqb j c) refl }
+  where
+    go : (j : ℕ) → j < n → (b : Bool) → eqb j c ≡ b → getD (set m c v) j 0 ≡ getD (set y c v) j 0
+    go j h true q =
+        let e : c ≡ j = sym (eqb-true j c q) in
+        rw (e, getD-set-same m j v 0 (omega (arith, g .long)), getD-set-same y j v 0 (omega (arith, g .other)))
+    go j h false q = let k = eqb-false j c q in rw (getD-set-other m c j v 0 k, getD-set-other y c j v 0 k) (g .is j h)
 
--- telling the children their bindings leaves the list as long as it was
-told-length : (d : ℕ) (cs : List Part) (m : List ℕ) → length (toldOf d cs m) ≡ length m
+same-told : (n d : ℕ) (cs : List Part) (m y : List ℕ) → Same n m y → Same n (toldOf d cs m) (toldOf d cs y)
 unfolding toldOf
-told-length d [] m = refl
-told-length d (c ∷ cs) m = told-length d cs (set m (c .child) (d + c .more)) ∙ simp length-set
+same-told n d [] m y g = g
+same-told n d (c ∷ cs) m y g = same-told n d cs _ _ (same-set n (c .child) (d + c .more) m y g)
 
-pub bindings-length : (s : List ℕ) (i : ℕ) → length (bindingsBelow s i) ≡ recordLimit
+-- lists of zeros
+zeros : (k j : ℕ) → _≡_ {A = ℕ} (getD (replicate k 0) j 0) 0
+zeros zero j = refl
+zeros (suc k) zero = refl
+zeros (suc k) (suc j) = zeros k j
+
+pub cleared : (n k : ℕ) → n ≤ k → Cleared n (replicate k 0)
+cleared n k h = record { long = rw (length-replicate {A = ℕ} k 0) h; zero = zeros k }
+
+-- before the pass, and after a record of it
+pub told-start : (s : List ℕ) (n : ℕ) {m : List ℕ} → Cleared n m → n ≤ recordLimit → Same n m (bindingsBelow s 0)
+unfolding bindingsBelow
+told-start s n g h = record { long = g .long; other = rw (length-replicate {A = ℕ} recordLimit 0) h; is = λ j k. g .zero j ∙ sym (zeros recordLimit j) }
+
+pub told-next : (s : List ℕ) (n i : ℕ) {m y : List ℕ} {x : Record} {cs : List Part}
+    → Same n m (bindingsBelow s i) → i < n → x ≡ recordAt s i → cs ≡ partsOf x → y ≡ toldOf (getD m i 0) cs m → Same n y (bindingsBelow s (i + 1))
 unfolding bindingsBelow with
-bindings-length s zero = refl
-bindings-length s (suc i) = told-length _ (partsOf (recordAt s i)) (bindingsBelow s i) ∙ bindings-length s i
+told-next s n i {m} g h ex ec ey =
+    rw (ey, ec, ex, g .is i h, add-one) (same-told n (getD (bindingsBelow s i) i 0) (partsOf (recordAt s i)) m (bindingsBelow s i) g)
 
 -- the test of record i by the list
-pub scoped-by : (s : List ℕ) (i : ℕ) {m : List ℕ} {x : Record} {b c : Bool}
-    → m ≡ bindingsBelow s i → x ≡ recordAt s i → b ≡ every (λ p. ltb p (getD m i 0 + inputCount)) (placesOf x) → b ≡ c → scopedOf s i ≡ c
+pub scoped-by : (s : List ℕ) (n i : ℕ) {m : List ℕ} {x : Record} {b c : Bool}
+    → Same n m (bindingsBelow s i) → i < n → x ≡ recordAt s i → b ≡ every (λ p. ltb p (getD m i 0 + inputCount)) (placesOf x) → b ≡ c → scopedOf s i ≡ c
 unfolding scopedOf with
-scoped-by s i em ex eb ec = rw (← em, ← ex) (sym eb ∙ ec)
+scoped-by s n i g h ex eb ec = rw (← g .is i h, ← ex) (sym eb ∙ ec)
 
 -- ---- a record has no more bindings than records before it
 
@@ -91,22 +112,16 @@ low-told d [] m b f h l = l
 low-told d (c ∷ cs) m b f h l =
     low-told d cs (set m (c .child) (d + c .more)) b (f .1) h (low-set m (c .child) (d + c .more) b l (omega (arith, f .0)))
 
-low-zeros : (n : ℕ) → Low (replicate n 0) 0
-unfolding Low
-low-zeros zero j = omega arith
-low-zeros (suc n) zero = omega arith
-low-zeros (suc n) (suc j) = low-zeros n j
-
 low-bindings : (s : List ℕ) (i : ℕ) → Low (bindingsBelow s i) i
 unfolding bindingsBelow with Low
-low-bindings s zero = low-zeros recordLimit
+low-bindings s zero = λ j. omega (arith, zeros recordLimit j)
 low-bindings s (suc i) =
     low-told _ _ (bindingsBelow s i) (suc i) (few-parts (recordAt s i))
     (omega (arith, low-bindings s i i)) (λ j. omega (arith, low-bindings s i j))
 
-pub binding-low : (s : List ℕ) (i : ℕ) {m : List ℕ} → m ≡ bindingsBelow s i → getD m i 0 ≤ i
+pub binding-low : (s : List ℕ) (n i : ℕ) {m : List ℕ} → Same n m (bindingsBelow s i) → i < n → getD m i 0 ≤ i
 unfolding Low
-binding-low s i e = rw e (low-bindings s i i)
+binding-low s n i g h = rw (g .is i h) (low-bindings s i i)
 
 -- for the ways out of the pass
 pub ruleset scoping = (up-stop, up-end, scoped-by, not-true)

@@ -6,17 +6,16 @@ use mathlib.Core.List.{List, [], _∷_}
 use Prim.Native.Nat.{ℕ, zero, suc, _+_, _-_, _<_, _≤_, min}
 use native.Mathlib.Numerals.{add-one}
 use native.Mathlib.Omega.{arith}
-use lib.ListN.{length, getD, set, length-set, replicate, getD-replicate}
+use lib.ListN.{length, getD, set, length-set}
 use lib.Seq.{set-out, getD-set-same, getD-set-other}
 use lib.Dec.{eqb, ltb}
 use borrow.Author.Tests.{eqb-true, eqb-false, eq-eqb, ne-eqb, ltb-true, not-true}
 use Rattle.notation.specs.Notation.{pick, if_then_else_, if_equals_then_else_, upTo, every}
 use Rattle.notation.proofs.Every.{pick-both, last, up-stop, up-make, up-all}
 use Rattle.semantics.specs.declared.Record.{Record}
-use Rattle.semantics.specs.Numbers.{recordLimit}
 use Rattle.semantics.specs.Records.{recordAt}
 use Rattle.semantics.specs.Rules.{Part, partsOf, insideOf, timesIn, timesBelow, onceOf, linkedOf}
-use Rattle.rules.specs.Passes.{bumpedOf, markedOf}
+use Rattle.rules.specs.Passes.{bumpedOf, markedOf, Cleared}
 use Rattle.rules.proofs.Follow.{and-both}
 
 -- ---- the list of marks
@@ -30,43 +29,43 @@ pub bump-past : (m : List ℕ) (i : ℕ) → length m ≤ i → m ≡ bumpedOf m
 unfolding bumpedOf
 bump-past m i h = sym (set-out m i _ h)
 
--- the marks m are f's counts, at most two
-pub record Counts (f : ℕ → ℕ) (m : List ℕ) : Type 0 where
-  pub long : length m ≡ recordLimit
-  pub is : (j : ℕ) → j < recordLimit → getD m j 0 ≡ min 2 (f j)
+-- the marks m of the first n records are f's counts, at most two
+pub record Counts (n : ℕ) (f : ℕ → ℕ) (m : List ℕ) : Type 0 where
+  pub long : n ≤ length m
+  pub is : (j : ℕ) → j < n → getD m j 0 ≡ min 2 (f j)
 
 -- one mark more is one count more
-bump-counts : (f : ℕ → ℕ) (m : List ℕ) (c : ℕ) → Counts f m → Counts (λ j. f j + (if j equals c then 1 else 0)) (bumpedOf m c)
+bump-counts : (n : ℕ) (f : ℕ → ℕ) (m : List ℕ) (c : ℕ) → Counts n f m → Counts n (λ j. f j + (if j equals c then 1 else 0)) (bumpedOf m c)
 unfolding bumpedOf if_equals_then_else_
-bump-counts f m c g = record { long = simp length-set (g .long); is = λ j h. go j h (eqb j c) refl }
+bump-counts n f m c g = record { long = simp length-set (g .long); is = λ j h. go j h (eqb j c) refl }
   where
-    go : (j : ℕ) → j < recordLimit → (b : Bool) → eqb j c ≡ b → getD (set m c (min 2 (getD m c 0 + 1))) j 0 ≡ min 2 (f j + pick b 1 0)
+    go : (j : ℕ) → j < n → (b : Bool) → eqb j c ≡ b → getD (set m c (min 2 (getD m c 0 + 1))) j 0 ≡ min 2 (f j + pick b 1 0)
     go j h true q =
         let e : c ≡ j = sym (eqb-true j c q) in
-        let k : j < length m = rw (g .long) h in
+        let k : j < length m = omega (arith, g .long) in
         let i = g .is j h in
         rw e (getD-set-same m j _ 0 k ∙ omega arith)
     go j h false q = let i = g .is j h in getD-set-other m c j _ 0 (eqb-false j c q) ∙ omega arith
 
 -- counts of equal numbers
-counts-as : {f g : ℕ → ℕ} {m : List ℕ} → ((j : ℕ) → f j ≡ g j) → Counts f m → Counts g m
+counts-as : {n : ℕ} {f g : ℕ → ℕ} {m : List ℕ} → ((j : ℕ) → f j ≡ g j) → Counts n f m → Counts n g m
 counts-as e c = record { long = c .long; is = λ j h. c .is j h ∙ ap (min 2) (e j) }
 
 -- the counts after all children of a record were marked
-mark-counts : (f : ℕ → ℕ) (cs : List Part) (m : List ℕ) → Counts f m → Counts (λ j. f j + timesIn j cs) (markedOf cs m)
+mark-counts : (n : ℕ) (f : ℕ → ℕ) (cs : List Part) (m : List ℕ) → Counts n f m → Counts n (λ j. f j + timesIn j cs) (markedOf cs m)
 unfolding markedOf timesIn
-mark-counts f [] m g = counts-as (λ j. omega arith) g
-mark-counts f (c ∷ cs) m g = counts-as (λ j. omega arith) (mark-counts _ cs _ (bump-counts f m (c .child) g))
+mark-counts n f [] m g = counts-as (λ j. omega arith) g
+mark-counts n f (c ∷ cs) m g = counts-as (λ j. omega arith) (mark-counts n _ cs _ (bump-counts n f m (c .child) g))
 
 -- before the pass, and after a record of it
-pub counts-start : (s : List ℕ) → Counts (timesBelow s 0) (replicate recordLimit 0)
+pub counts-start : (s : List ℕ) (n : ℕ) {m : List ℕ} → Cleared n m → Counts n (timesBelow s 0) m
 unfolding timesBelow
-counts-start s = record { long = refl; is = λ j h. getD-replicate recordLimit j 0 0 h }
+counts-start s n g = record { long = g .long; is = λ j h. g .zero j }
 
-pub counts-next : (s : List ℕ) (i : ℕ) {m y : List ℕ} {x : Record} {cs : List Part}
-    → Counts (timesBelow s i) m → x ≡ recordAt s i → cs ≡ partsOf x → y ≡ markedOf cs m → Counts (timesBelow s (i + 1)) y
+pub counts-next : (s : List ℕ) (n i : ℕ) {m y : List ℕ} {x : Record} {cs : List Part}
+    → Counts n (timesBelow s i) m → x ≡ recordAt s i → cs ≡ partsOf x → y ≡ markedOf cs m → Counts n (timesBelow s (i + 1)) y
 unfolding timesBelow
-counts-next s i {m} g ex ec ey = rw (ey, ec, ex, add-one) (mark-counts (timesBelow s i) (partsOf (recordAt s i)) m g)
+counts-next s n i {m} g ex ec ey = rw (ey, ec, ex, add-one) (mark-counts n (timesBelow s i) (partsOf (recordAt s i)) m g)
 
 -- ---- the tree
 
@@ -150,9 +149,9 @@ not-once s n i h w = go (upTo n (linkedOf s n)) refl
 
 -- the test of record i by its mark
 pub once-by : (s : List ℕ) (i : ℕ) {n : ℕ} {m : List ℕ} {b c : Bool}
-    → Counts (timesBelow s i) m → i < n → n ≤ recordLimit → b ≡ onceOf i (getD m i 0) → b ≡ c → onceOf i (timesBelow s i i) ≡ c
+    → Counts n (timesBelow s i) m → i < n → b ≡ onceOf i (getD m i 0) → b ≡ c → onceOf i (timesBelow s i i) ≡ c
 unfolding onceOf
-once-by s i g o k eb ec = rw (sym (low (timesBelow s i i)), ← g .is i (omega arith)) (sym eb ∙ ec)
+once-by s i g o eb ec = rw (sym (low (timesBelow s i i)), ← g .is i o) (sym eb ∙ ec)
   where
     low : (x : ℕ) → eqb (min 2 x) 1 ≡ eqb x 1
     low x = go (eqb x 1) refl

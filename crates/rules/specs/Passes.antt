@@ -1,7 +1,9 @@
--- What the functions of this crate hand to each other: a record's children in a struct, and the marks of the tree test. Assumes nothing.
+-- What the functions of this crate hand to each other: a record's children in a struct, the marks of the tree test, and lists of zeros. Assumes
+-- nothing.
 use Prim.Native.Nat.{ℕ, _+_, _≤_, min}
 use mathlib.Core.List.{List, [], _∷_}
-use lib.ListN.{getD, set, take}
+use mathlib.Core.Path.{_≡_}
+use lib.ListN.{length, getD, set, take}
 use Rattle.semantics.specs.Rules.{Part, part}
 use Rattle.rules.specs.declared.Child.{Child}
 use Rattle.rules.specs.declared.Children.{Children}
@@ -27,3 +29,8 @@ bumpedOf m c = set m c (min 2 (getD m c 0 + 1))
 unfoldable pub markedOf : List Part → List ℕ → List ℕ
 markedOf [] m = m
 markedOf (c ∷ cs) m = markedOf cs (bumpedOf m (c .child))
+
+-- a list with a zero for each of n records
+pub record Cleared (n : ℕ) (m : List ℕ) : Type 0 where
+  pub long : n ≤ length m
+  pub zero : (j : ℕ) → getD m j 0 ≡ 0

@@ -1,7 +1,8 @@
-// What is a rule: the tests 4 to 7 of document 01, each of which goes once over the records. Nothing is evaluated
-// here, and nothing is kept. The one public function, `refusal`, takes any bytes and has no `requires`.
+// What is a rule: the tests 4 to 7 of document 01, each of which goes once over the records; and test 8, of what it is
+// evaluated with. Nothing is evaluated here, and nothing is kept. No public function has a `requires`.
 use semantics::Record;
 use semantics::numbers::ABORT_RECORD;
+use semantics::numbers::ALLOWANCE_LIMIT;
 use semantics::numbers::BAD_PLACE;
 use semantics::numbers::BAD_RECORD;
 use semantics::numbers::BAD_TREE;
@@ -29,7 +30,8 @@ ghost use Rattle.semantics.specs.Numbers.{recordLimit};
 ghost use Rattle.semantics.specs.Records.{recordAt};
 ghost use Rattle.semantics.specs.Rules.{badRuleSize, usesOf, shapedOf, partsOf, insideOf, onceOf};
 ghost use Rattle.semantics.specs.Rules.{linkedOf, placesOf, toldOf, scopedOf, testsOf, ruleRefusalOf};
-ghost use Rattle.rules.specs.Passes.{partOf, childrenOf, OneMore, bumpedOf, markedOf};
+ghost use Rattle.semantics.specs.Evaluate.{badDepth};
+ghost use Rattle.rules.specs.Passes.{partOf, childrenOf, OneMore, bumpedOf, markedOf, Cleared};
 
 // The record at which a child stands, and how many bindings it has more than its parent.
 struct Child {
@@ -47,7 +49,9 @@ struct Children {
 // What `uses` answers where there is no such kind or op.
 const NO_SUCH: u8 = 4;
 
-// The length of a list that has a number for each record.
+// The lengths of a list that has a number for each record: of few records, and of the most. It is cleared whole.
+const FEW: usize = 64;
+
 const RECORDS: usize = RECORD_LIMIT as usize;
 
 // The number of the first test of 4 to 7 that refuses a rule; 0 where none does.
@@ -59,6 +63,16 @@ pub fn refusal(rule: &[u8]) -> u8
         return RULE_SIZE;
     }
     tests(rule, (l / 8) as u16)
+}
+
+// Test 8: an allowance outside 1 to 256.
+pub fn bad_depth(allowance: u16) -> bool
+    ensures { λ r. ⌜ r ≡ badDepth allowance ⌝ }
+{
+    if allowance == 0 {
+        return true;
+    }
+    ALLOWANCE_LIMIT < allowance
 }
 
 // The number of the first test of 5 to 7 that refuses a rule of n records; 0 where none does. Each test goes over all
@@ -152,13 +166,25 @@ fn uses(x: Record) -> u8
     NO_SUCH
 }
 
-// Test 6 lets the n records of a rule pass. Parents come first, so when the pass reaches a record, all that have
-// it for a child have marked it.
+// Test 6 lets the n records of a rule pass.
 fn tree(rule: &[u8], n: u16) -> bool
     requires { ⌜ n ≤ recordLimit ⌝ }
     ensures { λ r. ⌜ r ≡ upTo n (linkedOf (now (rule .entry)) n) ⌝ }
 {
+    if n as usize <= FEW {
+        let mut marks: [u8; FEW] = [0; FEW];
+        return tree_in(rule, n, &mut marks);
+    }
     let mut marks: [u8; RECORDS] = [0; RECORDS];
+    tree_in(rule, n, &mut marks)
+}
+
+// The same, with a list for the marks. Parents come first, so when the pass reaches a record, all that have it for a
+// child have marked it.
+fn tree_in(rule: &[u8], n: u16, marks: &mut [u8]) -> bool
+    requires { ⌜ Cleared n (now marks) ⌝ }
+    ensures { λ r. ⌜ r ≡ upTo n (linkedOf (now (rule .entry)) n) ⌝ }
+{
     for i in 0..n {
         let c = children_of(records::record_at(rule, i));
         if !ordered(c, i, n) {
@@ -167,7 +193,7 @@ fn tree(rule: &[u8], n: u16) -> bool
         if !once(i, marks[i as usize]) {
             return false;
         }
-        mark(&mut marks, c);
+        mark(marks, c);
     }
     true
 }
@@ -262,20 +288,32 @@ fn next(x: u8) -> u8
     if x == 0 { 1 } else { 2 }
 }
 
-// Test 7 lets the first n records pass. The list has each record's bindings once the pass reaches it, since each
-// record tells its children theirs; record 0 has none.
+// Test 7 lets the first n records pass.
 fn scopes(rule: &[u8], n: u16) -> bool
     requires { ⌜ n ≤ recordLimit ⌝ }
     ensures { λ r. ⌜ r ≡ upTo n (scopedOf (now (rule .entry))) ⌝ }
 {
+    if n as usize <= FEW {
+        let mut bindings: [u16; FEW] = [0; FEW];
+        return scopes_in(rule, n, &mut bindings);
+    }
     let mut bindings: [u16; RECORDS] = [0; RECORDS];
+    scopes_in(rule, n, &mut bindings)
+}
+
+// The same, with a list for the bindings. It has each record's once the pass reaches it, since each record tells its
+// children theirs; record 0 has none.
+fn scopes_in(rule: &[u8], n: u16, bindings: &mut [u16]) -> bool
+    requires { ⌜ n ≤ recordLimit ⌝ ∗ ⌜ Cleared n (now bindings) ⌝ }
+    ensures { λ r. ⌜ r ≡ upTo n (scopedOf (now (rule .entry))) ⌝ }
+{
     for i in 0..n {
         let x = records::record_at(rule, i);
         let d = bindings[i as usize];
         if !placed(x, d + INPUT_COUNT) {
             return false;
         }
-        tell(&mut bindings, children_of(x), d);
+        tell(bindings, children_of(x), d);
     }
     true
 }

@@ -29,7 +29,7 @@ use Rattle.terms.proofs.Image.{image-whole}
 use Rattle.typing.proofs.Ruled.{ruled}
 use Rattle.typing.proofs.Does.{does-same}
 use Rattle.soundness.proofs.Evaluation.{eval-does}
-use Rattle.sessions.specs.Entered.{Enters}
+use Rattle.fitting.specs.Opens.{Enters}
 use Rattle.sessions.proofs.Facts.{Fitting, fitting}
 
 module _ (x : Session) (s rule : List ℕ) (allowance : ℕ) (h : fitsOf x s ≡ true) (r : ruleRefusalOf rule ≡ 0) {e : ℕ} (en : Enters (x .inputs) e)

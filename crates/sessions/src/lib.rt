@@ -2,7 +2,6 @@
 // refusal leaves session and table as they were. No public function has a `requires`.
 use semantics::Answer;
 use semantics::Evaluated;
-use semantics::Input;
 use semantics::Session;
 use semantics::numbers;
 ghost use mathlib.Core.Bool.{true};
@@ -11,41 +10,27 @@ ghost use Prim.Native.Nat.{_<_};
 ghost use Rattle.semantics.specs.Numbers.{ruleLimit};
 ghost use Rattle.semantics.specs.Rules.{ruleRefusalOf};
 ghost use Rattle.semantics.specs.Fits.{fitsOf};
-ghost use Rattle.semantics.specs.Evaluate.{badDepth, evaluated as «evaluated-by-rules», evaluateOf};
-ghost use Rattle.sessions.specs.Entered.{Enters};
+ghost use Rattle.semantics.specs.Evaluate.{evaluated as «evaluated-by-rules», evaluateOf};
+ghost use Rattle.fitting.specs.Opens.{Enters};
 
-// The binding of input 0 on a table that begins with the opening of these inputs.
-fn environment(inputs: [Input; 16]) -> u16
-    ensures { λ r. ⌜ Enters inputs r ⌝ }
-{
-    let mut bytes: [u8; numbers::LEAST_TABLE] = [0; numbers::LEAST_TABLE];
-    let o = opening::open_all(&mut bytes, inputs);
-    o.number
-}
-
-fn bad_depth(allowance: u16) -> bool
-    ensures { λ r. ⌜ r ≡ badDepth allowance ⌝ }
-{
-    if allowance == 0 {
-        return true;
-    }
-    numbers::ALLOWANCE_LIMIT < allowance
-}
-
-// The evaluation by the rules, from record 0. What a refused one wrote behind the count is zeroed.
-fn evaluated(session: Session, table: &mut [u8], rule: &[u8], allowance: u16) -> Evaluated
-    requires { ⌜ (fitsOf session (now table) ≡ true) × (ruleRefusalOf (now rule) ≡ 0) × (session .accepted < ruleLimit) ⌝ }
+// The evaluation by the rules, from record 0 and input 0's binding. What a refused one wrote behind the count is zeroed.
+fn evaluated(
+    session: Session,
+    table: &mut [u8],
+    rule: &[u8],
+    allowance: u16,
+    environment: u16,
+) -> Evaluated
+    requires { ⌜ (fitsOf session (now table) ≡ true) × (ruleRefusalOf (now rule) ≡ 0) × (session .accepted < ruleLimit) ⌝ ∗ ⌜ Enters (session .inputs) environment ⌝ }
     ensures { λ r. ⌜ (r, now (table .exit)) ≡ «evaluated-by-rules» (now (rule .entry)) allowance session (now (table .entry)) ⌝ }
 {
-    let inputs = session.inputs;
-    let env = environment(inputs);
     let state = session.state;
     let o = evaluator::eval(
         table,
         rule,
         allowance,
         0,
-        env,
+        environment,
         state,
         session.count,
         session.accepted,
@@ -68,7 +53,8 @@ fn evaluated(session: Session, table: &mut [u8], rule: &[u8], allowance: u16) ->
 pub fn evaluate(session: Session, table: &mut [u8], rule: &[u8], allowance: u16) -> Evaluated
     ensures { λ r. ⌜ (r, now (table .exit)) ≡ evaluateOf (now (rule .entry)) allowance session (now (table .entry)) ⌝ }
 {
-    if fitting::fits(session, table) {} else {
+    let start = fitting::start_of(session, table);
+    if start.fits {} else {
         return Evaluated {
             answer: Answer::Refused(numbers::MISFIT),
             session: session,
@@ -81,7 +67,7 @@ pub fn evaluate(session: Session, table: &mut [u8], rule: &[u8], allowance: u16)
             session: session,
         };
     }
-    if bad_depth(allowance) {
+    if rules::bad_depth(allowance) {
         return Evaluated {
             answer: Answer::Refused(numbers::BAD_ALLOWANCE),
             session: session,
@@ -96,5 +82,5 @@ pub fn evaluate(session: Session, table: &mut [u8], rule: &[u8], allowance: u16)
     if session.halted {
         return acceptance::halted_again(session);
     }
-    evaluated(session, table, rule, allowance)
+    evaluated(session, table, rule, allowance, start.environment)
 }

@@ -10,6 +10,7 @@ ghost use mathlib.Core.Path.{_≡_};
 ghost use Prim.Native.Nat.{_/_, max, min};
 ghost use lib.ListN.{length};
 ghost use Rattle.semantics.specs.Terms.{wordTermOf, termWord, truthNumber, termsIn, at as «term-number», sameOf, sortOf, knownOf};
+ghost use Rattle.semantics.specs.Terms.{namesTruth, namesValue};
 ghost use Rattle.semantics.specs.Steps.{give, makeOf};
 ghost use Rattle.terms.specs.Search.{floorOf, findFrom};
 ghost use Rattle.terms.specs.Gives.{Makes};
@@ -244,4 +245,22 @@ pub fn make(table: &mut [u8], count: u16, t: Term) -> Made
         count: count + 1,
         number: count,
     }
+}
+
+// Whether a number names a truth among the first n terms.
+pub fn names_truth(table: &[u8], n: u16, x: u16) -> bool
+    ensures { λ r. ⌜ r ≡ namesTruth (termsIn (now (table .entry)) n) x ⌝ }
+{
+    sort_at(table, n, x) == numbers::TRUTH_TERM
+}
+
+// Whether it names anything there but a binding.
+pub fn names_value(table: &[u8], n: u16, x: u16) -> bool
+    ensures { λ r. ⌜ r ≡ namesValue (termsIn (now (table .entry)) n) x ⌝ }
+{
+    let k = sort_at(table, n, x);
+    if k == 0 {
+        return false;
+    }
+    k != numbers::BINDING_TERM
 }

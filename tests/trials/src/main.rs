@@ -1,7 +1,7 @@
 //! Compares the desk's exports and the printing program with the second evaluator, byte for byte, and the lines of the
 //! library's examples with those wanted. `faults` tries whether faults in the second evaluator are noticed by the trials at
 //! the limits; `limits` with the name of a group makes those of the group alone. `figures` takes times, and tries an
-//! evaluation in 1 MiB of stack; `bench`, `speed` and `stack` with a number of KiB are its parts.
+//! evaluation in 1 MiB of stack; `bench`, `small`, `speed` and `stack` with a number of KiB are its parts.
 
 mod bench;
 mod choices;
@@ -19,6 +19,7 @@ mod rule_trials;
 mod rules;
 mod run_trials;
 mod session_trials;
+mod small;
 mod speed;
 mod stack;
 mod tally;
@@ -33,10 +34,12 @@ fn main() {
     match words.iter().map(String::as_str).collect::<Vec<_>>()[..] {
         ["figures"] => {
             bench::run();
+            small::run();
             speed::run();
             return stack::run(1_024);
         }
         ["bench"] => return bench::run(),
+        ["small"] => return small::run(),
         ["speed"] => return speed::run(),
         ["stack", kibibytes] => return stack::run(kibibytes.parse().expect("a number")),
         ["faults"] => return faults::run(),

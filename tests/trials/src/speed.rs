@@ -8,7 +8,7 @@ use second::dice::{record, rule, Dice};
 use second::{evaluate, open, read, records, Answer, Input, Record, ResultOf, Session};
 use std::hint::black_box;
 
-const TABLE: usize = 65_536;
+pub const TABLE: usize = 65_536;
 const ALLOWANCE: u16 = 256;
 /// The counts of terms up to which chains of guarded updates are timed.
 const TERMS: [u16; 4] = [165, 700, 1_400, 2_800];
@@ -49,7 +49,7 @@ fn now() -> f64 {
 
 /// Prints the least times of the desk and of the second evaluator, which take turns, over so many runs in a turn. Each
 /// turn works on its own copy, which is made before.
-fn compare<T: Clone>(
+pub fn compare<T: Clone>(
     what: &str,
     runs: usize,
     start: &T,
@@ -73,14 +73,14 @@ fn compare<T: Clone>(
 
 /// A session in its two forms, with its table.
 #[derive(Clone)]
-struct Start {
+pub struct Start {
     session: Session,
     form: Vec<u8>,
     table: Vec<u8>,
 }
 
 impl Start {
-    fn new(inputs: &[Input; 16], bytes: usize) -> Start {
+    pub fn new(inputs: &[Input; 16], bytes: usize) -> Start {
         let mut table = vec![0; bytes];
         let session = open(inputs, &mut table).expect("a good opening");
         let form = desk::session_bytes(&session);
@@ -91,7 +91,7 @@ impl Start {
         }
     }
 
-    fn desk(&mut self, bytes: &[u8]) -> u8 {
+    pub fn desk(&mut self, bytes: &[u8]) -> u8 {
         desk::evaluate(
             &mut self.form,
             &mut self.table,
@@ -101,7 +101,7 @@ impl Start {
         )
     }
 
-    fn second(&mut self, bytes: &[u8]) -> Answer {
+    pub fn second(&mut self, bytes: &[u8]) -> Answer {
         evaluate(&mut self.session, &mut self.table, bytes, ALLOWANCE)
     }
 }

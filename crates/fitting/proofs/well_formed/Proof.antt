@@ -1,38 +1,21 @@
--- `fitting::well_formed` meets its contract. The loop's invariant: the first i terms are well formed, and each of them has its marks set.
--- The measure is what is left of n. Assumes nothing.
+-- `fitting::well_formed` meets its contract, for each count of marks. Assumes nothing.
 use borrow.Author.Needs.{needs}
-use mathlib.Core.Path.{_≡_}
-use mathlib.Core.Bool.{true}
-use Prim.Native.Nat.{_-_, _≤_}
-use Rattle.semantics.specs.Terms.{termsIn, wellFormed}
-use Rattle.fitting.specs.Formed.{firstFactor, secondFactor}
-use Rattle.fitting.proofs.Marks.{Marked, mark-inside, marked-start, marked-next, formed-start, formed-end, formed-miss, formed-twice, formed-next}
+use native.Mathlib.Omega.{arith}
+use Rattle.fitting.proofs.Marks.{held}
 use Rattle.fitting.proofs.well_formed.Statement.{statement}
 use Rattle.fitting.proofs.well_formed.Tie as tie
 
-abbrev Inv-loop : tie.InvT-loop
-Inv-loop table n accepted first₀ second₀ i₀ first second i =
-    ((i ≤ n) × (wellFormed accepted (termsIn table i) ≡ true)) × (Marked firstFactor (termsIn table i) first × Marked secondFactor (termsIn table i) second)
+formed-by-requires : tie.Need-formed-by-requires
+formed-by-requires c κs = (held 1023 1024 (omega arith), held 1023 1024 (omega arith))
 
-abbrev μ-loop : tie.MeasureT-loop
-μ-loop table n accepted first₀ second₀ i₀ first second i = n - i
+formed-by-requires-2 : tie.Need-formed-by-requires-2
+formed-by-requires-2 c κs = (held 8191 8192 (omega arith), held 8191 8192 (omega arith))
 
-loop-holds : tie.Need-loop-holds Inv-loop μ-loop
-loop-holds c = ((search needs, formed-start _ _), (marked-start _ _, marked-start _ _))
-
-loop-again : tie.Need-loop-again Inv-loop μ-loop
-loop-again c =
-    let p = c .before .before .before .before .before in
-    let t = p .before .term-at .ensures in
-    let l = p .before .before .before .loop .inv in
-    let x = c .before .before .before .mark-of .ensures in
-    let y = c .before .before .mark-of2 .ensures in
-    let w = formed-next _ _ _ (l .0 .1) t (p .laid-out .ensures) (c .before .before .before .before .if1 .taken) _ _ (l .1 .0) (l .1 .1) x y (c .before .repeated .ensures) (c .if2 .left) in
-    ((search needs, w), (marked-next _ _ _ (l .1 .0) t x, marked-next _ _ _ (l .1 .1) t y))
+formed-by-requires-3 : tie.Need-formed-by-requires-3
+formed-by-requires-3 c κs = (held 131071 65537 (omega arith), held 131071 65537 (omega arith))
 
 pub well-formed-spec : {M : Type 1} → statement M
 well-formed-spec =
     tie.close
-    (tie.spec Inv-loop μ-loop loop-holds (λ c κs. search needs) (λ c κs. search needs) (λ c. search formed-miss) (λ c κs. search needs) (λ c κs. search needs)
-    (λ c. search mark-inside) (λ c. search mark-inside) (λ c κs. search needs) (λ c. search formed-twice) (λ c. search mark-inside)
-    (λ c. search mark-inside) (λ c. search needs) (λ c. search needs) loop-again (λ c. search formed-end))
+    (tie.spec (λ c. search needs) (λ c. search needs) formed-by-requires (λ c. search needs) (λ c. search needs) (λ c. search needs) formed-by-requires-2
+    (λ c. search needs) (λ c. search needs) (λ c. search needs) formed-by-requires-3 (λ c. search needs))

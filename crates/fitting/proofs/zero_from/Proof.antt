@@ -1,32 +1,52 @@
--- `fitting::zero_from` meets its contract. The invariant: what was seen and the bytes from i on decide the test. The measure is what is left of
--- the slice. Assumes nothing.
+-- `fitting::zero_from` meets its contract: the four quarters, and what is left after them. Assumes nothing.
 use borrow.Author.Needs.{needs}
-use mathlib.Core.Path.{_≡_}
-use mathlib.Core.Bool.{false}
-use mathlib.Core.Logic.{⊎-elim}
-use Prim.Native.Nat.{_-_}
-use lib.ListN.{length, drop}
-use Rattle.notation.specs.Notation.{pick, every}
-use Rattle.semantics.specs.Fits.{isZero}
-use Rattle.fitting.proofs.Loops.{zero-end, zero-next, zero-miss}
+use mathlib.Core.Path.{refl}
+use Prim.Native.Nat.{_+_, _-_, _/_, _<_}
+use native.Mathlib.Omega.{arith}
+use denote.Ref.{now}
+use lib.ListN.{length}
+use Rattle.fitting.proofs.Zeros.{rest-end, parts-long, parts-on, parts-miss}
 use Rattle.fitting.proofs.zero_from.Statement.{statement}
 use Rattle.fitting.proofs.zero_from.Tie as tie
 
-abbrev Inv-loop : tie.InvT-loop
-Inv-loop s at zero₀ i₀ zero i = pick zero (every isZero (drop i s)) false ≡ every isZero (drop at s)
+returns : tie.Need-returns
+returns c = rest-end _ _ refl (c .if1 .taken)
 
-abbrev μ-loop : tie.MeasureT-loop
-μ-loop s at zero₀ i₀ zero i = length s - i
+four-zero-requires : tie.Need-four-zero-requires
+four-zero-requires c κs =
+    let known = c .before .before .before .before in
+    let s = now (known .before .before .args .s) in
+    let p = known .before .before .args .at in
+    let q = (length s - p) / 4 in
+    let h : p < length s = known .if1 .left in (
+      parts-long s (p + q) (p + q + q) p (p + q) (omega arith) (omega arith) (omega arith) (omega arith) (omega arith),
+      (
+        parts-long s (p + q + q) (p + q + q + q) p (p + q) (omega arith) (omega arith) (omega arith) (omega arith) (omega arith),
+        parts-long s (p + q + q + q) (p + q + q + q + q) p (p + q) (omega arith) (omega arith) (omega arith) (omega arith) (omega arith),
+      ),
+    )
 
-loop-again : tie.Need-loop-again Inv-loop μ-loop
-loop-again c =
-    let at = c .before .before .before in
-    ⊎-elim
-    (λ w. rw (w .1) (zero-miss _ (at .loop .i) (at .loop .zero) (at .loop .inv) (c .before .before .loop-test .taken) (w .0 .taken)))
-    (λ w. rw (w .1) (zero-next _ (at .loop .i) (at .loop .zero) (at .loop .inv) (c .before .before .loop-test .taken) (w .0 .left)))
-    (c .if1 .came)
+returns-2 : tie.Need-returns-2
+returns-2 c =
+    let start = c .before .before .before .before .before .before .before .before .before in
+    let s = now (start .args .s) in
+    let p = start .args .at in
+    let q = (length s - p) / 4 in
+    parts-on s p (p + q) (p + q + q) (p + q + q + q) (p + q + q + q + q) (omega arith) (omega arith) (omega arith) (omega arith)
+    (c .before .before .four-zero .ensures) (c .before .if2 .taken) (c .rest-zero .ensures)
+
+returns-3 : tie.Need-returns-3
+returns-3 c =
+    let start = c .before .before .before .before .before .before .before .before in
+    let s = now (start .args .s) in
+    let p = start .args .at in
+    let q = (length s - p) / 4 in
+    parts-miss s p (p + q) (p + q + q) (p + q + q + q) (p + q + q + q + q) (omega arith) (omega arith) (omega arith) (omega arith)
+    (c .before .four-zero .ensures) (c .if2 .left)
 
 pub zero-from-spec : {M : Type 1} → statement M
 zero-from-spec =
     tie.close
-    (tie.spec Inv-loop μ-loop (λ c. search needs) (λ c. search needs) (λ c. search needs) (λ c. search needs) loop-again (λ c. search (needs, zero-end)))
+    (tie.spec returns (λ c. search needs) (λ c. search needs) (λ c. search needs) (λ c. search needs) (λ c. search needs) (λ c. search needs)
+    (λ c. search needs) (λ c. search needs) (λ c. search needs) (λ c. search needs) (λ c. search needs) (λ c. search needs) (λ c. search needs)
+    (λ c. search needs) (λ c. search needs) (λ c. search needs) (λ c. search needs) four-zero-requires (λ c κs. search needs) returns-2 returns-3)

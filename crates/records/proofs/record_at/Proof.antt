@@ -1,17 +1,11 @@
--- `records::record_at` meets its contract: each field is what its bytes say. Assumes nothing.
+-- `records::record_at` meets its contract. Assumes nothing.
 use borrow.Author.Needs.{needs}
-use Rattle.semantics.specs.Records.{recordAt}
+use Rattle.records.proofs.Alone.{part-record}
 use Rattle.records.proofs.record_at.Statement.{statement}
 use Rattle.records.proofs.record_at.Tie as tie
-
-returns : tie.Need-returns
-unfolding recordAt
-returns c = cc
 
 pub record-at-spec : {M : Type 1} → statement M
 record-at-spec =
     tie.close
-    (tie.spec (λ c. search needs) (λ c κs. search needs) (λ c. search needs) (λ c κs. search needs) (λ c. search needs) (λ c κs. search needs) (λ c. search needs)
-    (λ c. search needs) (λ c κs. search needs) (λ c κs. search needs) (λ c. search needs) (λ c κs. search needs) (λ c. search needs) (λ c. search needs)
-    (λ c κs. search needs) (λ c κs. search needs) (λ c. search needs) (λ c κs. search needs) (λ c. search needs) (λ c. search needs)
-    (λ c κs. search needs) (λ c κs. search needs) returns)
+    (tie.spec (λ c. search needs) (λ c. search needs) (λ c. search needs) (λ c. search needs) (λ c. search needs) (λ c κs. search needs)
+    (λ c. search part-record) (λ c κs. search needs) (λ c. search needs))

@@ -1,9 +1,9 @@
--- `fitting::names_value` meets its contract. Assumes nothing.
+-- `terms::names_value` meets its contract. Assumes nothing.
 use borrow.Author.Needs.{needs}
 use Rattle.notation.proofs.Follow.{tests}
 use Rattle.semantics.specs.Terms.{namesValue}
-use Rattle.fitting.proofs.names_value.Statement.{statement}
-use Rattle.fitting.proofs.names_value.Tie as tie
+use Rattle.terms.proofs.names_value.Statement.{statement}
+use Rattle.terms.proofs.names_value.Tie as tie
 
 pub names-value-spec : {M : Type 1} → statement M
 unfolding namesValue

@@ -1,8 +1,8 @@
--- `fitting::names_truth` meets its contract. Assumes nothing.
+-- `terms::names_truth` meets its contract. Assumes nothing.
 use borrow.Author.Needs.{needs}
 use Rattle.semantics.specs.Terms.{namesTruth}
-use Rattle.fitting.proofs.names_truth.Statement.{statement}
-use Rattle.fitting.proofs.names_truth.Tie as tie
+use Rattle.terms.proofs.names_truth.Statement.{statement}
+use Rattle.terms.proofs.names_truth.Tie as tie
 
 returns : tie.Need-returns
 unfolding namesTruth

@@ -1,8 +1,8 @@
--- `sessions::bad_depth` meets its contract. Assumes nothing.
+-- `rules::bad_depth` meets its contract. Assumes nothing.
 use Rattle.notation.proofs.Follow.{tests}
 use Rattle.semantics.specs.Evaluate.{badDepth}
-use Rattle.sessions.proofs.bad_depth.Statement.{statement}
-use Rattle.sessions.proofs.bad_depth.Tie as tie
+use Rattle.rules.proofs.bad_depth.Statement.{statement}
+use Rattle.rules.proofs.bad_depth.Tie as tie
 
 pub bad-depth-spec : {M : Type 1} → statement M
 unfolding badDepth
