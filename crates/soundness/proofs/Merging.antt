@@ -24,19 +24,19 @@ use Rattle.soundness.proofs.Sim.{Seen, ends, broken, on, StateMeans, st
 
 -- what a branch reads as
 pub record BranchReading : Type 0 where
-  pub g : Bool
+  pub guard : Bool
   pub s : Bool
   pub t : Bool
   pub v : Value
-  pub h : Bool
+  pub halted : Bool
 
 pub record BranchMeans (ns : List ℕ) (ts : List Term) (o : Seen) (b : Branch) (x : BranchReading) : Type 0 where
-  pub guard : MeansTruth ns (x .g) ts (b .guard)
+  pub guard : MeansTruth ns (x .guard) ts (b .guard)
   pub state : StateMeans ns (x .s) (x .t) ts (b .state)
   pub value : MeansValue ns (x .v) ts (b .value)
-  pub halts : b .halted ≡ x .h
-  pub agrees : x .g ≡ true → on (x .s) (x .t) (gives (x .v)) ≡ o
-  pub dead : x .h ≡ true → (x .s && x .t) ≡ false
+  pub halts : b .halted ≡ x .halted
+  pub agrees : x .guard ≡ true → on (x .s) (x .t) (gives (x .v)) ≡ o
+  pub dead : x .halted ≡ true → (x .s && x .t) ≡ false
 
 pub data BranchesMean (ns : List ℕ) (ts : List Term) (o : Seen) : List Branch → List BranchReading → Type 0 where
   no-branch : BranchesMean ns ts o [] []
@@ -50,20 +50,20 @@ branches-step p (also h r) =
 
 -- a branch, by its guard and its result
 pub branch-means : {ns : List ℕ} {ts : List Term} {p o : Seen} {g : ℕ} {x : Bool} {r : Result} → MeansTruth ns x ts g → (h : Sim ns p ts r) → (x ≡ true → p ≡ o)
-    → BranchMeans ns ts o (branchOf g r) (record { g = x; s = h .s; t = h .t; v = h .v; h = r .halted })
+    → BranchMeans ns ts o (branchOf g r) (record { guard = x; s = h .s; t = h .t; v = h .v; halted = r .halted })
 branch-means b h q = record { guard = b; state = h .state; value = h .value; halts = refl; agrees = λ i. h .sees ∙ q i; dead = h .dead }
 
 abbrev pub any : List BranchReading → Bool
 any [] = false
-any (x ∷ xs) = x .g || any xs
+any (x ∷ xs) = x .guard || any xs
 
 abbrev guardedAssumed : List BranchReading → Bool
 guardedAssumed [] = true
-guardedAssumed (x ∷ xs) = (not (x .g) || x .s) && guardedAssumed xs
+guardedAssumed (x ∷ xs) = (not (x .guard) || x .s) && guardedAssumed xs
 
 abbrev guardedAsserted : List BranchReading → Bool
 guardedAsserted [] = true
-guardedAsserted (x ∷ xs) = (not (x .g) || x .t) && guardedAsserted xs
+guardedAsserted (x ∷ xs) = (not (x .guard) || x .t) && guardedAsserted xs
 
 abbrev unlessHalted : Bool → BranchReading → List BranchReading → List BranchReading
 unlessHalted true x xs = xs
@@ -72,11 +72,11 @@ unlessHalted false x xs = x ∷ xs
 -- the branches that did not halt
 abbrev unhalted : List BranchReading → List BranchReading
 unhalted [] = []
-unhalted (x ∷ xs) = unlessHalted (x .h) x (unhalted xs)
+unhalted (x ∷ xs) = unlessHalted (x .halted) x (unhalted xs)
 
 abbrev pickedValue : BranchReading → List BranchReading → Value
 pickedValue x [] = x .v
-pickedValue x (y ∷ ys) = pick (x .g) (x .v) (pickedValue y ys)
+pickedValue x (y ∷ ys) = pick (x .guard) (x .v) (pickedValue y ys)
 
 -- ---- the formulas that an outcome reads from
 abbrev assumedIn : Seen → Bool
@@ -137,12 +137,12 @@ module _ {ns : List ℕ} {ts : List Term} where
   guarded-assumed : {o : Seen} {bs : List Branch} {xs : List BranchReading} → BranchesMean ns ts o bs xs → guardedAssumed xs ≡ (not (any xs) || assumedIn o)
   guarded-assumed no-branch = refl
   guarded-assumed {o = o} (also {x = x} {xs = xs} h r) =
-      rw (guarded-assumed r) (guarded-step (x .g) (x .s) (assumedIn o) (any xs) (λ q. sym (assumed-in (x .s) (x .t) (x .v)) ∙ ap assumedIn (h .agrees q)))
+      rw (guarded-assumed r) (guarded-step (x .guard) (x .s) (assumedIn o) (any xs) (λ q. sym (assumed-in (x .s) (x .t) (x .v)) ∙ ap assumedIn (h .agrees q)))
 
   guarded-asserted : {o : Seen} {bs : List Branch} {xs : List BranchReading} → BranchesMean ns ts o bs xs → guardedAsserted xs ≡ (not (any xs) || assertedIn o)
   guarded-asserted no-branch = refl
   guarded-asserted {o = o} (also {x = x} {xs = xs} h r) =
-      rw (guarded-asserted r) (guarded-step (x .g) (x .t) (assertedIn o) (any xs) (λ q. sym (asserted-in (x .s) (x .t) (x .v)) ∙ ap assertedIn (h .agrees q)))
+      rw (guarded-asserted r) (guarded-step (x .guard) (x .t) (assertedIn o) (any xs) (λ q. sym (asserted-in (x .s) (x .t) (x .v)) ∙ ap assertedIn (h .agrees q)))
 
 -- ---- the merged formulas are those of the outcome
 merged-assumed : (s t n : Bool) (p : Ended) → ((s && t) ≡ true → n ≡ true) → (s && (not n || assumedIn (on s t p))) ≡ assumedIn (on s t p)
@@ -163,9 +163,9 @@ merged-asserted false false n p q = refl
 module _ {ns : List ℕ} {ts : List Term} {w : Value} where
   any-unhalted : {bs : List Branch} {xs : List BranchReading} → BranchesMean ns ts (ends (gives w)) bs xs → any xs ≡ true → any (unhalted xs) ≡ true
   any-unhalted no-branch q = q
-  any-unhalted (also {x = x} {xs = xs} h r) q = go (x .g) (x .h) refl refl (λ k. any-unhalted r k) q
+  any-unhalted (also {x = x} {xs = xs} h r) q = go (x .guard) (x .halted) refl refl (λ k. any-unhalted r k) q
     where
-      go : (g k : Bool) → x .g ≡ g → x .h ≡ k → (any xs ≡ true → any (unhalted xs) ≡ true) → (g || any xs) ≡ true → any (unlessHalted k x (unhalted xs)) ≡ true
+      go : (g k : Bool) → x .guard ≡ g → x .halted ≡ k → (any xs ≡ true → any (unhalted xs) ≡ true) → (g || any xs) ≡ true → any (unlessHalted k x (unhalted xs)) ≡ true
       go true true i j rec z = never (sym (h .dead j) ∙ on-normal (x .s) (x .t) (gives (x .v)) w (h .agrees i))
       go true false i j rec z = rw i
       go false true i j rec z = rec z
@@ -174,25 +174,25 @@ module _ {ns : List ℕ} {ts : List Term} {w : Value} where
 -- what the values of the branches that did not halt are
 data ValuesAgree (w : Value) : List BranchReading → Type 0 where
   no-value : ValuesAgree w []
-  value-agrees : {x : BranchReading} {xs : List BranchReading} → (x .g ≡ true → x .v ≡ w) → ValuesAgree w xs → ValuesAgree w (x ∷ xs)
+  value-agrees : {x : BranchReading} {xs : List BranchReading} → (x .guard ≡ true → x .v ≡ w) → ValuesAgree w xs → ValuesAgree w (x ∷ xs)
 
 values-agree : {ns : List ℕ} {ts : List Term} {w : Value} {bs : List Branch} {xs : List BranchReading} → BranchesMean ns ts (ends (gives w)) bs xs → ValuesAgree w (unhalted xs)
 values-agree no-branch = no-value
-values-agree {w = w} (also {x = x} {xs = xs} h r) = go (x .h) (values-agree r)
+values-agree {w = w} (also {x = x} {xs = xs} h r) = go (x .halted) (values-agree r)
   where
     go : (k : Bool) → ValuesAgree w (unhalted xs) → ValuesAgree w (unlessHalted k x (unhalted xs))
     go true z = z
     go false z = value-agrees (λ i. on-value (x .s) (x .t) (x .v) w (h .agrees i)) z
 
 picks : {w : Value} (x : BranchReading) (xs : List BranchReading) → ValuesAgree w (x ∷ xs) → any (x ∷ xs) ≡ true → pickedValue x xs ≡ w
-picks x [] (value-agrees h r) q = h (or-f (x .g) q)
+picks x [] (value-agrees h r) q = h (or-f (x .guard) q)
   where
     or-f : (b : Bool) → (b || false) ≡ true → b ≡ true
     or-f true e = refl
     or-f false e = e
-picks {w} x (y ∷ ys) (value-agrees h r) q = go (x .g) refl q (λ z. picks y ys r z)
+picks {w} x (y ∷ ys) (value-agrees h r) q = go (x .guard) refl q (λ z. picks y ys r z)
   where
-    go : (g : Bool) → x .g ≡ g → (g || any (y ∷ ys)) ≡ true → (any (y ∷ ys) ≡ true → pickedValue y ys ≡ w) → pick g (x .v) (pickedValue y ys) ≡ w
+    go : (g : Bool) → x .guard ≡ g → (g || any (y ∷ ys)) ≡ true → (any (y ∷ ys) ≡ true → pickedValue y ys ≡ w) → pick g (x .v) (pickedValue y ys) ≡ w
     go true i z rec = h i
     go false i z rec = rec z
 
@@ -214,9 +214,9 @@ not-normal broken n q = refl
 
 any-unspent : {ns : List ℕ} {ts : List Term} {o : Seen} {bs : List Branch} {xs : List BranchReading} → BranchesMean ns ts o bs xs → any xs ≡ true → o ≡ ends spends → ⊥
 any-unspent no-branch q e = never q
-any-unspent (also {x = x} {xs = xs} h r) q e = go (x .g) refl q (λ k. any-unspent r k e)
+any-unspent (also {x = x} {xs = xs} h r) q e = go (x .guard) refl q (λ k. any-unspent r k e)
   where
-    go : (g : Bool) → x .g ≡ g → (g || any xs) ≡ true → (any xs ≡ true → ⊥) → ⊥
+    go : (g : Bool) → x .guard ≡ g → (g || any xs) ≡ true → (any xs ≡ true → ⊥) → ⊥
     go true i z rec = on-unspent (x .s) (x .t) (x .v) (h .agrees i ∙ e)
     go false i z rec = rec z
 
@@ -239,7 +239,7 @@ module _ {l n : ℕ} {N : ℕ → Type 0} (room : N tableFull) {ns : List ℕ} w
   assumed-does {s = s} z h no-branch = rw (and-true s) (does-give _ (z .fit) h)
   assumed-does {s = s} z h (also {x = x} {xs = xs} b r) =
       does-then (merge-assumed-does room (z .fit) h (truth-step z (b .guard)) (truth-step z (b .state .S))) (λ us y p hy.
-      rw (← and-assoc s (not (x .g) || x .s) (guardedAssumed xs)) (assumed-does (step-on z p) hy r))
+      rw (← and-assoc s (not (x .guard) || x .s) (guardedAssumed xs)) (assumed-does (step-on z p) hy r))
 
   asserted-does : {ts us : List Term} {x : State} {s t : Bool} {o : Seen} {bs : List Branch} {xs : List BranchReading} → Step n ts us → StateMeans ns s t us x → BranchesMean ns ts o bs xs
       → Does l n (each assertedStep x bs) us (StateMeans ns s (t && guardedAsserted xs)) N
@@ -247,7 +247,7 @@ module _ {l n : ℕ} {N : ℕ → Type 0} (room : N tableFull) {ns : List ℕ} w
   asserted-does {t = t} z h no-branch = rw (and-true t) (does-give _ (z .fit) h)
   asserted-does {t = t} z h (also {x = x} {xs = xs} b r) =
       does-then (merge-asserted-does room (z .fit) h (truth-step z (b .guard)) (truth-step z (b .state .T))) (λ us y p hy.
-      rw (← and-assoc t (not (x .g) || x .t) (guardedAsserted xs)) (asserted-does (step-on z p) hy r))
+      rw (← and-assoc t (not (x .guard) || x .t) (guardedAsserted xs)) (asserted-does (step-on z p) hy r))
 
   states-does : {ts : List Term} {x : State} {s t : Bool} {o : Seen} {bs : List Branch} {xs : List BranchReading} → Fit n ts → StateMeans ns s t ts x → BranchesMean ns ts o bs xs
       → Does l n (mergeStatesOf x bs) ts (StateMeans ns (s && guardedAssumed xs) (t && guardedAsserted xs)) N
@@ -255,7 +255,7 @@ module _ {l n : ℕ} {N : ℕ → Type 0} (room : N tableFull) {ns : List ℕ} w
   states-does f h r = does-then (assumed-does (stay f) h r) (λ us y p hy. asserted-does p hy r)
 
   value-step-does : {ts : List Term} {o : Seen} {b : Branch} {x : BranchReading} {ys : List BranchReading} {v : Found} → Fit n ts → BranchMeans ns ts o b x → Chosen ns ys ts v
-      → Does l n (valueStepOf b v) ts (Chosen ns (unlessHalted (x .h) x ys)) N
+      → Does l n (valueStepOf b v) ts (Chosen ns (unlessHalted (x .halted) x ys)) N
   unfolding valueStepOf
   value-step-does {b = b} f h (none-runs e) =
       does-if (b .halted) (λ i. does-give _ f (rw (sym (h .halts) ∙ i) (none-runs e))) λ i.

@@ -11,7 +11,7 @@ use Rattle.semantics.specs.declared.Record.{Record}
 use Rattle.semantics.specs.declared.State.{State}
 use Rattle.semantics.specs.Numbers.{datumRecord, variableRecord, procedureRecord, callRecord, operatorRecord, letRecord, ifRecord, abortRecord, depthSpent}
 use Rattle.semantics.specs.Records.{recordAt, datumWord}
-use Rattle.semantics.specs.Evaluation.{Run, expressionOf, liveOf, evalOf}
+use Rattle.semantics.specs.Evaluation.{Evaluator, expressionOf, liveOf, evalOf}
 use Rattle.semantics.specs.Run.{Value, binding, gives, aborts, errs, Running, after, isFalse, operatorRun, datumValue, callRun, procedure}
 use Rattle.typing.proofs.Evaluation.{Ruled}
 use Rattle.soundness.proofs.Constants.{does-give, does-refuse, does-read, does-with, does-if, does-eq, does-up}
@@ -59,7 +59,7 @@ module _ (rule : List ℕ) (rn : ℕ → Running) (x : Record) (i : ℕ) (E : Va
   total-error a b c d e f g h = rw (ne-eqb _ _ a, ne-eqb _ _ b, ne-eqb _ _ c, ne-eqb _ _ d, ne-eqb _ _ e, ne-eqb _ _ f, ne-eqb _ _ g, ne-eqb _ _ h)
 
 module _ (l b : ℕ) (ns : List ℕ) (rule : List ℕ) (ruled : Ruled rule) where
-  module _ (run : Run) (rn : ℕ → Running) (ih : Sims l (b + 1) ns run rn) where
+  module _ (run : Evaluator) (rn : ℕ → Running) (ih : Sims l (b + 1) ns run rn) where
     expression-sim : {ts : List Term} {e : ℕ} {y : State} {s t : Bool} {E : Value} (i : ℕ) → Entry (b + 1) ns ts e y s t E
         → Sound l (b + 1) ns ts s t (totalExpression rule rn (recordAt rule i) i E) (expressionOf rule b run (recordAt rule i) i e y)
     unfolding expressionOf

@@ -18,7 +18,7 @@ use Rattle.semantics.specs.Terms.{term, blank, at, sortOf}
 use Rattle.semantics.specs.Steps.{Make, _▹_, give, each}
 use Rattle.semantics.specs.States.{outOf}
 use Rattle.semantics.specs.Merge.{branchOf}
-use Rattle.semantics.specs.Evaluation.{Run, placeOf, datumOf, procedureOf, abortOf, errorOf, wordsOf, operationOf, testOf, operatorOf, secondOf, underOf, letOf, Fork, forkOf, branchesOf, bothOf, ifOf, applyOf, targetOf, targetsOf, callOf, expressionOf, liveOf, evalOf}
+use Rattle.semantics.specs.Evaluation.{Evaluator, placeOf, datumOf, procedureOf, abortOf, errorOf, wordsOf, operationOf, testOf, operatorOf, secondOf, underOf, letOf, Fork, forkOf, branchesOf, bothOf, ifOf, applyOf, targetOf, targetsOf, callOf, expressionOf, liveOf, evalOf}
 use Rattle.typing.proofs.Grown.{grown-on, at-past, Sort, Value, sort-grown, value-grown, value-of}
 use Rattle.typing.proofs.Formed.{Laid, laid-at, binding-value, binding-next}
 use Rattle.typing.proofs.Does.{Fit, Does, Every, every-grown, does-give, does-refuse, does-then, does-map, does-read, does-with, does-if, does-eq, does-below, does-up}
@@ -132,10 +132,10 @@ pub record Ruled (rule : List ℕ) : Type 0 where
 -- ---- expressions that have parts
 module _ (l b : ℕ) where
   -- an evaluator that gives results of their kinds
-  abbrev pub Runs : Run → Type 0
+  abbrev pub Runs : Evaluator → Type 0
   Runs run = (ts : List Term) (i e : ℕ) (x : State) → Fit (b + 1) ts → Bound ts e → Stated ts x → Does l (b + 1) (run i e x) ts Resulted
 
-  module _ (rule : List ℕ) (ruled : Ruled rule) (run : Run) (ih : Runs run) where
+  module _ (rule : List ℕ) (ruled : Ruled rule) (run : Evaluator) (ih : Runs run) where
     under-does : {ts : List Term} {x : State} (q v e : ℕ) → Fit (b + 1) ts → Value ts v → Bound ts e → Stated ts x → Does l (b + 1) (underOf run q v e x) ts Resulted
     unfolding underOf
     under-does {x = x} q v e f k i h =
