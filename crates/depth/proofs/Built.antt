@@ -20,7 +20,7 @@ use Rattle.semantics.specs.Factory.{notOf, andOf, orOf, impliesOf, choiceOf, tr
 use Rattle.semantics.specs.States.{mergeAssumedOf, mergeAssertedOf, assumeOf, assertOf}
 use Rattle.semantics.specs.Walk.{leafOf, Walk, sideOf, leftSideOf, rightSideOf, sidesOf, nodeOf, walkOf, orTargetOf, aimOf}
 use Rattle.semantics.specs.Merge.{assumedStep, assertedStep, mergeStatesOf, valueStepOf, mergeValuesOf, finishOf, mergeOf}
-use Rattle.semantics.specs.Evaluation.{Run, datumOf, procedureOf, abortOf, errorOf, wordsOf, operationOf, testOf, operatorOf, forkOf, underOf, letOf, branchesOf, bothOf, ifOf, applyOf, targetOf, targetsOf, callOf, expressionOf, liveOf}
+use Rattle.semantics.specs.Evaluation.{Evaluator, datumOf, procedureOf, abortOf, errorOf, wordsOf, operationOf, testOf, operatorOf, forkOf, underOf, letOf, branchesOf, bothOf, ifOf, applyOf, targetOf, targetsOf, callOf, expressionOf, liveOf}
 
 -- A relation between steps that each form of a step keeps. The terms that evaluations make are no free inputs, and the one refusal of their own
 -- is 10.
@@ -210,7 +210,7 @@ module _ (R : (A : Type 0) → Make A → Make A → Type 0) (kept : Congruence 
   kept-fork g x = kept .going-on (kept-not g) (λ h. kept .going-on (kept-assume x g) (λ y. kept-map _ (kept-assume x h)))
 
   -- ---- expressions, over two evaluations of the parts that the relation holds between
-  module _ (rule : List ℕ) (b : ℕ) (run far : Run) (parts : (i e : ℕ) (x : State) → R _ (run i e x) (far i e x)) where
+  module _ (rule : List ℕ) (b : ℕ) (run far : Evaluator) (parts : (i e : ℕ) (x : State) → R _ (run i e x) (far i e x)) where
     kept-under : (q v e : ℕ) (x : State) → R _ (underOf run q v e x) (underOf far q v e x)
     unfolding noFree underOf
     kept-under q v e x = kept .going-on (kept .making _ refl) (λ a. parts q a x)

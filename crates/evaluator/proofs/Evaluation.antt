@@ -10,7 +10,7 @@ use Rattle.semantics.specs.declared.Leaf.{Leaf}
 use Rattle.semantics.specs.declared.Branch.{Branch}
 use Rattle.semantics.specs.Steps.{up}
 use Rattle.semantics.specs.Merge.{branchOf}
-use Rattle.semantics.specs.Evaluation.{Run, applyOf, targetOf, liveOf, evalOf}
+use Rattle.semantics.specs.Evaluation.{Evaluator, applyOf, targetOf, liveOf, evalOf}
 use Rattle.terms.specs.Gives.{Gives, from}
 use Rattle.terms.proofs.Gives.{steps, if-eq, if-ne, gives-value, gives-none, then-map}
 use Rattle.walk.proofs.Arrays.{from-push}
@@ -27,7 +27,7 @@ module _ (rule : List ℕ) (before d i env : ℕ) (x : State) {s : List ℕ} {n 
   eval-go h g = let e : d ≡ suc (d - 1) = omega arith in rw (e, evalOf) g
 
 -- a leaf that is no procedure is passed over; a target's result stands after those before it
-module _ (run : Run) (rule : List ℕ) (arg : ℕ) (x : State) (bs : List Branch) (l : Leaf) {s : List ℕ} {n : ℕ} where
+module _ (run : Evaluator) (rule : List ℕ) (arg : ℕ) (x : State) (bs : List Branch) (l : Leaf) {s : List ℕ} {n : ℕ} where
   pub target-passed : (l .term .kind ≡ 7 → ⊥) → Gives (targetOf run rule arg x bs l) s n 0 n 0 bs s
   unfolding targetOf
   target-passed h = if-ne _ _ _ _ h (gives-value _ _ _ refl)

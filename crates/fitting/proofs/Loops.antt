@@ -6,7 +6,7 @@ use mathlib.Core.List.{List}
 use Prim.Native.Nat.{ℕ, zero, suc, _-_, _<_, _≤_}
 use native.Mathlib.Omega.{arith}
 use lib.ListN.{take}
-use Rattle.notation.specs.Notation.{pick, if_then_else_}
+use Rattle.notation.specs.Notation.{pick, if_then_else_, every}
 use Rattle.semantics.specs.declared.Term.{Term}
 use Rattle.semantics.specs.Terms.{termAt, termsIn, sameOf}
 use Rattle.semantics.specs.Fits.{sameTerms, noFree}

@@ -15,7 +15,7 @@ use Rattle.semantics.specs.Records.{recordAt}
 use Rattle.semantics.specs.Terms.{at}
 use Rattle.semantics.specs.Steps.{each}
 use Rattle.semantics.specs.Walk.{orTargetOf, Aim, aimOf}
-use Rattle.semantics.specs.Evaluation.{Run, underOf, applyOf, targetOf, targetsOf, callOf}
+use Rattle.semantics.specs.Evaluation.{Evaluator, underOf, applyOf, targetOf, targetsOf, callOf}
 use Rattle.semantics.specs.Run.{Value, truth, word, procedure, binding, none, gives, errs, Running, isAProcedure, callRun}
 use Rattle.typing.proofs.Grown.{Sort, sort-grown}
 use Rattle.typing.proofs.Formed.{never, Laid, laid-at, procedure-names}
@@ -128,7 +128,7 @@ record Ranged (ns : List ℕ) (o : Seen) (rest all : Bool) (ts : List Term) (bs 
   branches : BranchesMean ns ts o bs xs
   same : (any xs || rest) ≡ all
 
-module _ {l n : ℕ} {ns : List ℕ} {run : Run} {rn : ℕ → Running} (rule : List ℕ) (ih : Sims l n ns run rn) where
+module _ {l n : ℕ} {ns : List ℕ} {run : Evaluator} {rn : ℕ → Running} (rule : List ℕ) (ih : Sims l n ns run rn) where
   -- a target, its guard assumed
   apply-does : {top ts : List Term} {v u : Value} {arg : ℕ} {x : State} {s t s₀ t₀ : Bool} {y : Leaf} {g : Bool} → Step n top ts → StateMeans ns s t ts x → MeansValue ns u ts arg
       → (Const top → (s && t) ≡ true) → LeafMeans ns ts v y g → y .term .kind ≡ procedureTerm

@@ -15,7 +15,7 @@ use Rattle.semantics.specs.declared.Branch.{Branch}
 use Rattle.semantics.specs.Numbers.{wordDatum, trueDatum, notCode, isWordCode, recordLimit, tableFull}
 use Rattle.semantics.specs.Steps.{Make, _▹_, give, reads}
 use Rattle.semantics.specs.States.{outOf}
-use Rattle.semantics.specs.Evaluation.{Run, placeOf, datumOf, procedureOf, abortOf, errorOf, wordsOf, operationOf, testOf, operatorOf, secondOf, underOf, letOf, Fork, forkOf, branchesOf, bothOf, ifOf}
+use Rattle.semantics.specs.Evaluation.{Evaluator, placeOf, datumOf, procedureOf, abortOf, errorOf, wordsOf, operationOf, testOf, operatorOf, secondOf, underOf, letOf, Fork, forkOf, branchesOf, bothOf, ifOf}
 use Rattle.semantics.specs.Run.{Value, truth, word, procedure, binding, Ended, gives, aborts, errs, spends, Running, after, isFalse, isAWord, isAProcedure, wordIn, operationValue, wordsRun, operatorRun, datumValue}
 use Rattle.typing.proofs.Formed.{never}
 use Rattle.typing.proofs.Does.{Fit, stay, step-on, does-give, does-then, does-map, does-weaken, does-read, does-with, does-if, does-eq, does-below, does-refused}
@@ -264,7 +264,7 @@ module _ {l n : ℕ} {ns : List ℕ} {ts : List Term} {e : ℕ} {x : State} {s t
       (value-does (does-weaken (entry .fit) (λ us a g q. truth-is-value q) (test-does full (entry .fit) op (place-is p e (entry .fit) (entry .env))))))))
 
   -- ---- expressions that have parts
-  module _ {run : Run} {rn : ℕ → Running} (ih : Sims l n ns run rn) where
+  module _ {run : Evaluator} {rn : ℕ → Running} (ih : Sims l n ns run rn) where
     -- Let: what is read of the first part goes on as the run does.
     let-next : (p q : ℕ) {us : List Term} {r : Result} (h : Sim ns (on s t (rn p E)) us r)
         → on (h .s) (h .t) (rn q (binding (h .v) E)) ≡ on s t (after (rn p E) (λ v. rn q (binding v E)))

@@ -15,7 +15,7 @@ use Rattle.semantics.specs.Numbers.{noBinding, depthSpent, tableFull, callTooWi
 use Rattle.semantics.specs.Terms.{at, knownOf}
 use Rattle.semantics.specs.Steps.{Make}
 use Rattle.semantics.specs.States.{mergeAssumedOf, mergeAssertedOf, assumeOf, assertOf, haltsOf, outOf, haltOf}
-use Rattle.semantics.specs.Evaluation.{Run, placeOf}
+use Rattle.semantics.specs.Evaluation.{Evaluator, placeOf}
 use Rattle.semantics.specs.Run.{Value, truth, none, Ended, gives, aborts, errs, spends, Running, after, Look, placedOr, runBy}
 use Rattle.typing.proofs.Grown.{at-past, sort-grown, value-grown}
 use Rattle.typing.proofs.Formed.{never, Laid, laid-at, binding-value, binding-next}
@@ -90,7 +90,7 @@ abbrev pub Sound : ℕ → ℕ → List ℕ → List Term → Bool → Bool → 
 Sound l n ns ts s t o m = Does l n m ts (Sim ns (on s t o)) (Spends ts s t o)
 
 -- What the parts of a record promise: the hypothesis of the induction.
-abbrev pub Sims : ℕ → ℕ → List ℕ → Run → (ℕ → Running) → Type 0
+abbrev pub Sims : ℕ → ℕ → List ℕ → Evaluator → (ℕ → Running) → Type 0
 Sims l n ns run rn = (i e : ℕ) (x : State) (ts : List Term) (s t : Bool) (E : Value) → Fit n ts → MeansBindings ns E ts e → StateMeans ns s t ts x
     → Sound l n ns ts s t (rn i E) (run i e x)
 

@@ -13,7 +13,7 @@ use Rattle.semantics.specs.declared.Result.{Result}
 use Rattle.semantics.specs.Numbers.{depthSpent}
 use Rattle.semantics.specs.Records.{recordAt}
 use Rattle.semantics.specs.Steps.{Make}
-use Rattle.semantics.specs.Evaluation.{Run, expressionOf, liveOf, evalOf}
+use Rattle.semantics.specs.Evaluation.{Evaluator, expressionOf, liveOf, evalOf}
 use Rattle.semantics.specs.Run.{Value, gives, Running, expressionRun, runBy}
 use Rattle.typing.proofs.Ruled.{Ruled}
 use Rattle.typing.proofs.Does.{does-give, does-refuse, does-read, does-with, does-if, does-up}
@@ -35,7 +35,7 @@ sound-eq {l} {n} {ns} {ts} {s} {t} {E} {f} {g} {m} {o} i j a b = go (eqb i j) re
     go false e = b
 
 module _ (l b : ℕ) (ns : List ℕ) (rule : List ℕ) (ruled : Ruled rule) where
-  module _ (run : Run) (rn : ℕ → Running) (ih : Sims l (b + 1) ns run rn) where
+  module _ (run : Evaluator) (rn : ℕ → Running) (ih : Sims l (b + 1) ns run rn) where
     expression-sim : {ts : List Term} {e : ℕ} {y : State} {s t : Bool} {E : Value} (i : ℕ) → Entry (b + 1) ns ts e y s t E
         → SoundAt l (b + 1) ns ts s t E (expressionRun lookOf rule rn (recordAt rule i) i) (expressionOf rule b run (recordAt rule i) i e y)
     unfolding expressionOf expressionRun

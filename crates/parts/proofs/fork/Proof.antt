@@ -1,9 +1,9 @@
--- `evaluator::fork` meets its contract: it follows the text of its definition. Assumes nothing.
+-- `parts::fork` meets its contract: it follows the text of its definition. Assumes nothing.
 use borrow.Author.Needs.{needs}
 use Rattle.terms.proofs.Gives.{steps}
 use Rattle.semantics.specs.Evaluation.{forkOf}
-use Rattle.evaluator.proofs.fork.Statement.{statement}
-use Rattle.evaluator.proofs.fork.Tie as tie
+use Rattle.parts.proofs.fork.Statement.{statement}
+use Rattle.parts.proofs.fork.Tie as tie
 
 returns : tie.Need-returns
 unfolding forkOf
