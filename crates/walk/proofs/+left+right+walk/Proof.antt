@@ -61,57 +61,21 @@ right-claims t = (not-of-reads.Asked, not-of-reads.Learnt, left-below t, left.Po
 abbrev walk-claims : ℕ → walk-lts.Claims
 walk-claims t = (term-reads.Asked, term-reads.Learnt, left-below t, left.Post, right-below t, right.Post, leaf-reads.Asked, leaf-reads.Learnt)
 
-left-and-of-requires : (t : ℕ) → left-lts.Need-and-of-requires (left-claims t) (left-at t) left.Post
-left-and-of-requires t c κs = search needs
-
-left-same-length : (t : ℕ) → left-lts.Need-same-length (left-claims t) (left-at t) left.Post
-left-same-length t c = search needs
-
 left-returns : (t : ℕ) → left-lts.Need-returns (left-claims t) (left-at t) left.Post
 unfolding leftSideOf sideOf
 left-returns t c = record { gives = search steps depth 12; few = search needs }
-
-left-known-requires : (t : ℕ) → left-lts.Need-known-requires (left-claims t) (left-at t) left.Post
-left-known-requires t c κs = search needs
-
-left-same-length-2 : (t : ℕ) → left-lts.Need-same-length-2 (left-claims t) (left-at t) left.Post
-left-same-length-2 t c = search needs
 
 left-returns-2 : (t : ℕ) → left-lts.Need-returns-2 (left-claims t) (left-at t) left.Post
 unfolding leftSideOf sideOf
 left-returns-2 t c = record { gives = search steps depth 12; few = search needs }
 
-left-walk-requires : (t : ℕ) → left-lts.Need-walk-requires (left-claims t) (left-at t) left.Post
-left-walk-requires t c κs = search needs
-
-left-same-length-3 : (t : ℕ) → left-lts.Need-same-length-3 (left-claims t) (left-at t) left.Post
-left-same-length-3 t c = search needs
-
-left-same-length-4 : (t : ℕ) → left-lts.Need-same-length-4 (left-claims t) (left-at t) left.Post
-left-same-length-4 t c = search needs
-
 left-returns-3 : (t : ℕ) → left-lts.Need-returns-3 (left-claims t) (left-at t) left.Post
 unfolding leftSideOf sideOf
 left-returns-3 t c = record { gives = search steps depth 12; few = search needs }
 
-right-not-of-requires : (t : ℕ) → right-lts.Need-not-of-requires (right-claims t) (right-at t) right.Post
-right-not-of-requires t c κs = search needs
-
-right-same-length : (t : ℕ) → right-lts.Need-same-length (right-claims t) (right-at t) right.Post
-right-same-length t c = search needs
-
 right-returns : (t : ℕ) → right-lts.Need-returns (right-claims t) (right-at t) right.Post
 unfolding rightSideOf
 right-returns t c = record { gives = search steps depth 12; few = search needs }
-
-right-left-requires : (t : ℕ) → right-lts.Need-left-requires (right-claims t) (right-at t) right.Post
-right-left-requires t c κs = search needs
-
-right-same-length-2 : (t : ℕ) → right-lts.Need-same-length-2 (right-claims t) (right-at t) right.Post
-right-same-length-2 t c = search needs
-
-right-same-length-3 : (t : ℕ) → right-lts.Need-same-length-3 (right-claims t) (right-at t) right.Post
-right-same-length-3 t c = search needs
 
 right-returns-2 : (t : ℕ) → right-lts.Need-returns-2 (right-claims t) (right-at t) right.Post
 unfolding rightSideOf leftSideOf
@@ -121,94 +85,29 @@ walk-returns : (t : ℕ) → walk-lts.Need-returns (walk-claims t) (walk-at t) w
 unfolding nodeOf sidesOf
 walk-returns t c = record { gives = search walks depth 12; few = search needs }
 
-walk-term-requires : (t : ℕ) → walk-lts.Need-term-requires (walk-claims t) (walk-at t) walk.Post
-walk-term-requires t c κs = search needs
-
-walk-sub-left : (t : ℕ) → walk-lts.Need-sub-left (walk-claims t) (walk-at t) walk.Post
-walk-sub-left t c = search needs
-
-walk-left-requires : (t : ℕ) → walk-lts.Need-left-requires (walk-claims t) (walk-at t) walk.Post
-walk-left-requires t c κs = search needs
-
-walk-same-length : (t : ℕ) → walk-lts.Need-same-length (walk-claims t) (walk-at t) walk.Post
-walk-same-length t c = search needs
-
-walk-same-length-2 : (t : ℕ) → walk-lts.Need-same-length-2 (walk-claims t) (walk-at t) walk.Post
-walk-same-length-2 t c = search needs
-
 walk-returns-2 : (t : ℕ) → walk-lts.Need-returns-2 (walk-claims t) (walk-at t) walk.Post
 unfolding nodeOf sidesOf
 walk-returns-2 t c = record { gives = search walks depth 12; few = search needs }
 
-walk-sub-right : (t : ℕ) → walk-lts.Need-sub-right (walk-claims t) (walk-at t) walk.Post
-walk-sub-right t c = search needs
-
-walk-right-requires : (t : ℕ) → walk-lts.Need-right-requires (walk-claims t) (walk-at t) walk.Post
-walk-right-requires t c κs = search needs
-
-walk-same-length-3 : (t : ℕ) → walk-lts.Need-same-length-3 (walk-claims t) (walk-at t) walk.Post
-walk-same-length-3 t c = search needs
-
-walk-same-length-4 : (t : ℕ) → walk-lts.Need-same-length-4 (walk-claims t) (walk-at t) walk.Post
-walk-same-length-4 t c = search needs
-
 walk-returns-3 : (t : ℕ) → walk-lts.Need-returns-3 (walk-claims t) (walk-at t) walk.Post
 unfolding nodeOf sidesOf
 walk-returns-3 t c = record { gives = search walks depth 12; few = search needs }
-
-walk-leaf-requires : (t : ℕ) → walk-lts.Need-leaf-requires (walk-claims t) (walk-at t) walk.Post
-walk-leaf-requires t c κs = search needs
-
-walk-same-length-5 : (t : ℕ) → walk-lts.Need-same-length-5 (walk-claims t) (walk-at t) walk.Post
-walk-same-length-5 t c = search needs
-
-walk-same-length-6 : (t : ℕ) → walk-lts.Need-same-length-6 (walk-claims t) (walk-at t) walk.Post
-walk-same-length-6 t c = search needs
 
 walk-returns-4 : (t : ℕ) → walk-lts.Need-returns-4 (walk-claims t) (walk-at t) walk.Post
 unfolding nodeOf sidesOf
 walk-returns-4 t c = record { gives = search walks depth 12; few = search needs }
 
 pub +left+right+walk-spec : {M : Type 1} → statement M
-+left+right+walk-spec = close μ-left μ-right μ-walk (λ t. left-lts.spec (left-claims t)
-    (left-at t)
-    left.Post
-    (left-and-of-requires t)
-    (left-same-length t)
-    (left-returns t)
-    (left-known-requires t)
-    (left-same-length-2 t)
-    (left-returns-2 t)
-    (left-walk-requires t)
-    (left-same-length-3 t)
-    (left-same-length-4 t)
-    (left-returns-3 t))
-    (λ t. right-lts.spec (right-claims t)
-    (right-at t)
-    right.Post
-    (right-not-of-requires t)
-    (right-same-length t)
-    (right-returns t)
-    (right-left-requires t)
-    (right-same-length-2 t)
-    (right-same-length-3 t)
-    (right-returns-2 t))
-    λ t. walk-lts.spec (walk-claims t)
-    (walk-at t)
-    walk.Post
-    (walk-returns t)
-    (walk-term-requires t)
-    (walk-sub-left t)
-    (walk-left-requires t)
-    (walk-same-length t)
-    (walk-same-length-2 t)
-    (walk-returns-2 t)
-    (walk-sub-right t)
-    (walk-right-requires t)
-    (walk-same-length-3 t)
-    (walk-same-length-4 t)
-    (walk-returns-3 t)
-    (walk-leaf-requires t)
-    (walk-same-length-5 t)
-    (walk-same-length-6 t)
-    (walk-returns-4 t)
++left+right+walk-spec = close μ-left μ-right μ-walk
+    (λ t. left-lts.spec (left-claims t) (left-at t) left.Post
+    (λ c κs. search needs) (λ c. search needs) (left-returns t)
+    (λ c κs. search needs) (λ c. search needs) (left-returns-2 t)
+    (λ c κs. search needs) (λ c. search needs) (λ c. search needs) (left-returns-3 t))
+    (λ t. right-lts.spec (right-claims t) (right-at t) right.Post
+    (λ c κs. search needs) (λ c. search needs) (right-returns t)
+    (λ c κs. search needs) (λ c. search needs) (λ c. search needs) (right-returns-2 t))
+    λ t. walk-lts.spec (walk-claims t) (walk-at t) walk.Post
+    (walk-returns t) (λ c κs. search needs)
+    (λ c. search needs) (λ c κs. search needs) (λ c. search needs) (λ c. search needs) (walk-returns-2 t)
+    (λ c. search needs) (λ c κs. search needs) (λ c. search needs) (λ c. search needs) (walk-returns-3 t)
+    (λ c κs. search needs) (λ c. search needs) (λ c. search needs) (walk-returns-4 t)
