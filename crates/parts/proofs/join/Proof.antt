@@ -7,7 +7,8 @@ use Rattle.parts.proofs.join.Tie as tie
 returns : tie.Need-returns
 unfolding from
 returns c = (
-  rw (← c .before .before .before .before .before .before .branch2 .ensures, ← c .before .before .before .before .before .before .before .branch .ensures) (c .before .before .before .before .merge .ensures),
+  rw (c .before .before .before .before .before .before .before .branch .ensures, c .before .before .before .before .before .before .branch2 .ensures) at
+      (c .before .before .before .before .merge .ensures),
   search needs,
 )
 
