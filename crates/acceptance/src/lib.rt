@@ -45,7 +45,7 @@ pub fn answer(result: Result, depth: u16) -> Answer
     }
 }
 
-// The same halt, and one rule more.
+// A halted session gives its halt again, and has accepted one rule more.
 pub fn halted_again(session: Session) -> Evaluated
     requires { ⌜ session .accepted < ruleLimit ⌝ }
     ensures { λ r. ⌜ ((s : List ℕ) → (r, s) ≡ haltedAgain session s) ⌝ }

@@ -22,13 +22,13 @@ pub fn evaluate(
     if forms::session_formed(session) {} else {
         return numbers::MISFIT;
     }
-    let e = entry::enter_once(forms::session_in(session), table, rule, allowance);
-    let a = e.answer;
-    let refusal = forms::put_answer(answer, a);
+    let entered = entry::enter_once(forms::session_in(session), table, rule, allowance);
+    let given = entered.answer;
+    let refusal = forms::put_answer(answer, given);
     if refusal != 0 {
         return refusal;
     }
-    let x = e.session;
-    forms::put_session(session, x);
+    let next = entered.session;
+    forms::put_session(session, next);
     0
 }

@@ -16,11 +16,11 @@ pub fn open(inputs: &[u8], table: &mut [u8], session: &mut [u8]) -> u8
     if forms::inputs_formed(inputs) {} else {
         return numbers::BAD_INPUT;
     }
-    let o = opening::open(forms::inputs_in(inputs), table);
-    if o.refusal != 0 {
-        return o.refusal;
+    let opened = opening::open(forms::inputs_in(inputs), table);
+    if opened.refusal != 0 {
+        return opened.refusal;
     }
-    let x = o.session;
-    forms::put_session(session, x);
+    let begun = opened.session;
+    forms::put_session(session, begun);
     0
 }

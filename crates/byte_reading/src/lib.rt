@@ -38,17 +38,17 @@ pub fn read(
 ) -> u8
     ensures { λ r. ⌜ (r, now (work .exit), now (reading .exit)) ≡ deskRead (now (session .entry)) (now (table .entry)) (now (numbers .entry)) (now (result .entry)) (now (work .entry)) (now (reading .entry)) ⌝ }
 {
-    let k = read_unformed(session, numbers, result, reading.len());
-    if k != 0 {
+    let unformed = read_unformed(session, numbers, result, reading.len());
+    if unformed != 0 {
         reader::wipe(work);
-        return k;
+        return unformed;
     }
-    let o = operations::read(
+    let outcome = operations::read(
         forms::session_in(session),
         table,
         forms::numbers_in(numbers),
         forms::result_in(result),
         work,
     );
-    forms::put_outcome(reading, o)
+    forms::put_outcome(reading, outcome)
 }

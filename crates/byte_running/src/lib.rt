@@ -31,17 +31,17 @@ pub fn run(
 ) -> u8
     ensures { λ r. ⌜ (r, now (store .exit), now (reading .exit)) ≡ deskRun (now (inputs .entry)) (now (numbers .entry)) (now (rule .entry)) allowance (now (store .entry)) (now (reading .entry)) ⌝ }
 {
-    let k = run_unformed(inputs, numbers, reading.len());
-    if k != 0 {
+    let unformed = run_unformed(inputs, numbers, reading.len());
+    if unformed != 0 {
         records::wipe(store, 0);
-        return k;
+        return unformed;
     }
-    let o = operations::run_plainly(
+    let outcome = operations::run_plainly(
         forms::inputs_in(inputs),
         forms::numbers_in(numbers),
         rule,
         allowance,
         store,
     );
-    forms::put_outcome(reading, o)
+    forms::put_outcome(reading, outcome)
 }

@@ -114,7 +114,7 @@ fn input_zeroed(s: &[u8], i: u8) -> bool
     records::byte(s, at + 1) == 0
 }
 
-// The same of each of the 16 inputs.
+// Whether what stands between kind and value is zero in each of the 16 inputs.
 pub fn inputs_zeroed(s: &[u8]) -> bool
     ensures { λ r. ⌜ r ≡ inputsZeroed (now (s .entry)) ⌝ }
 {

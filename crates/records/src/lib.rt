@@ -38,7 +38,7 @@ pub fn record_at(s: &[u8], i: u16) -> Record
     cut(s, i)
 }
 
-// The same, with a bound tested for each byte.
+// The record with a number, with a bound tested for each byte: a record past the end of the slice has zeros there.
 fn cut(s: &[u8], i: u16) -> Record
     ensures { λ r. ⌜ r ≡ recordAt (now (s .entry)) i ⌝ }
 {
