@@ -185,6 +185,8 @@ fn tree_and_scopes_in(rule: &[u8], n: u16, marks: &mut [u8], bindings: &mut [u16
     let mut scoped = true;
     for i in 0..n {
         let x = records::record_at(rule, i);
+        let d = bindings[i as usize];
+        scoped = both(placed(x, d + INPUT_COUNT), scoped);
         let c = children_of(x);
         if !ordered(c, i, n) {
             return BAD_TREE;
@@ -193,8 +195,6 @@ fn tree_and_scopes_in(rule: &[u8], n: u16, marks: &mut [u8], bindings: &mut [u16
             return BAD_TREE;
         }
         mark(marks, c);
-        let d = bindings[i as usize];
-        scoped = both(placed(x, d + INPUT_COUNT), scoped);
         tell(bindings, c, d);
     }
     if scoped { 0 } else { BAD_PLACE }

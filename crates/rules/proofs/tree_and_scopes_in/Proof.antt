@@ -29,47 +29,54 @@ loop-holds c =
     let p = c .before .before .before .pre in
     ((search needs, (search needs, search needs)), ((linked-start _ _, counts-start _ _ (p .1 .0)), (up-start _, told-start _ _ (p .1 .1) (p .0))))
 
+slice-read-d : tie.Need-slice-read-d Inv-loop μ-loop
+slice-read-d c =
+    let t = c .before .before in
+    omega (arith, t .loop-test .taken, t .before .loop .inv .1 .1 .1 .long)
+
+add-placed : tie.Need-add-placed Inv-loop μ-loop
+add-placed c =
+    let t = c .before .before in
+    omega (arith, t .loop-test .taken, t .before .before .before .before .before .pre .0, binding-low _ _ _ (t .before .loop .inv .1 .1 .1) (t .loop-test .taken))
+
 returns : tie.Need-returns Inv-loop μ-loop
 returns c = bad-tree _ _ (search trees)
 
 slice-read-once : tie.Need-slice-read-once Inv-loop μ-loop
 slice-read-once c =
-    let t = c .before .before .before .before .before in
+    let t = c .before .before .before .before .before .before .before .before in
     omega (arith, t .loop-test .taken, t .before .loop .inv .1 .0 .1 .long)
 
 returns-2 : tie.Need-returns-2 Inv-loop μ-loop
 returns-2 c = bad-tree _ _ (search trees)
 
-slice-read-d : tie.Need-slice-read-d Inv-loop μ-loop
-slice-read-d c =
-    let t = c .before .before .before .before .before .before .before .before .before .before .before .before in
-    omega (arith, t .loop-test .taken, t .before .loop .inv .1 .1 .1 .long)
-
-add-placed : tie.Need-add-placed Inv-loop μ-loop
-add-placed c =
-    let t = c .before .before .before .before .before .before .before .before .before .before .before .before in
-    omega (arith, t .loop-test .taken, t .before .before .before .before .before .pre .0, binding-low _ _ _ (t .before .loop .inv .1 .1 .1) (t .loop-test .taken))
-
 tell-requires : tie.Need-tell-requires Inv-loop μ-loop
 tell-requires c κs =
-    let k = c .before .before .before .before .before .before .before .before .before .before .before .before .before in
-    let t = k .before .before in
+    let k = c .before .before .before .before .before .before .before .before .before .before in
+    let t = k .before .before .before .before .before in
     (k .children-of .ensures .1, omega (arith, t .loop-test .taken, t .before .before .before .before .before .pre .0, binding-low _ _ _ (t .before .loop .inv .1 .1 .1) (t .loop-test .taken)))
+
+-- the loop's test stands further back than `search` looks
+add-i : tie.Need-add-i Inv-loop μ-loop
+add-i c =
+    let b = c .before .before .before .before .before .before .before .before .before .before .before .before .before .before in
+    let h = b .before .before .before .before .loop-test .taken in
+    search (needs, h)
 
 loop-again : tie.Need-loop-again Inv-loop μ-loop
 loop-again c =
-    let b = c .before .before .before .before in
-    let m = b .before .before .before .before in
+    let m = c .before .before .before .before .before in
     let o = m .before .before .before .before in
     let r = o .before .before .before in
-    let t = r .before .before .before in
+    let b = r .before .before in
+    let t = b .before .before .before .before in
     let i = t .loop-test .taken in
     let l = t .before .loop .inv in
-    let x = r .before .before .record-at .ensures in
+    let x = b .before .before .before .record-at .ensures in
     let k = r .before .children-of .ensures .0 in
+    let s = scoped-by _ _ _ (l .1 .1 .1) i x (b .before .placed .ensures) in
     let u = ordered-by _ _ _ x k (r .ordered .ensures) (not-false (r .ordered .result) (o .before .before .if1 .left)) in
-    let w = once-by _ _ (l .1 .0 .1) i (o .once .ensures) (not-false (o .once .result) (m .before .before .before .if2 .left)) in
-    let s = scoped-by _ _ _ (l .1 .1 .1) i x (b .before .placed .ensures) in (
+    let w = once-by _ _ (l .1 .0 .1) i (o .once .ensures) (not-false (o .once .result) (m .before .before .before .if2 .left)) in (
       (search needs, (m .marks .given ∙ l .0 .1 .0, c .before .bindings .given ∙ l .0 .1 .1)),
       (
         (linked-next _ _ _ (l .1 .0 .0) u w, counts-next _ _ _ (l .1 .0 .1) x k (m .before .mark .ensures)),
@@ -92,7 +99,7 @@ returns-4 c =
 pub tree-and-scopes-in-spec : {M : Type 1} → statement M
 tree-and-scopes-in-spec =
     tie.close
-    (tie.spec Inv-loop μ-loop loop-holds (λ c κs. search needs) (λ c κs. search needs) (λ c κs. search needs) (λ c. search needs) (λ c. search needs) returns
-    (λ c. search needs) slice-read-once (λ c κs. search needs) (λ c. search needs) (λ c. search needs) returns-2 (λ c κs. search needs) (λ c. search needs)
-    (λ c. search needs) slice-read-d add-placed (λ c κs. search needs) (λ c κs. search needs) tell-requires (λ c. search needs) (λ c. search needs) loop-again
-    (λ c. search needs) (λ c. search needs) returns-3 (λ c. search needs) (λ c. search needs) returns-4)
+    (tie.spec Inv-loop μ-loop loop-holds (λ c κs. search needs) (λ c. search needs) (λ c. search needs) slice-read-d add-placed (λ c κs. search needs)
+    (λ c κs. search needs) (λ c κs. search needs) (λ c κs. search needs) (λ c. search needs) (λ c. search needs) returns (λ c. search needs)
+    slice-read-once (λ c κs. search needs) (λ c. search needs) (λ c. search needs) returns-2 (λ c κs. search needs) tell-requires add-i
+    (λ c. search needs) loop-again (λ c. search needs) (λ c. search needs) returns-3 (λ c. search needs) (λ c. search needs) returns-4)
