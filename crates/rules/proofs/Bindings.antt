@@ -1,6 +1,6 @@
 -- The scope test: the list that the code keeps has the definition's numbers, and they are so low that no sum wraps. Assumes nothing.
 use mathlib.Core.Path.{_≡_, refl, sym, _∙_}
-use mathlib.Core.Bool.{Bool, true, false}
+use mathlib.Core.Bool.{Bool, true, false, _&&_}
 use mathlib.Core.List.{List, [], _∷_}
 use Prim.Native.Nat.{ℕ, zero, suc, _+_, _<_, _≤_}
 use native.Mathlib.Numerals.{add-one}
@@ -8,9 +8,8 @@ use native.Mathlib.Omega.{arith}
 use lib.ListN.{length, getD, set, length-set, replicate, length-replicate}
 use lib.Seq.{set-out, getD-set-same, getD-set-other}
 use lib.Dec.{eqb, ltb}
-use borrow.Author.Tests.{eqb-true, eqb-false, ltb-true, ltb-false, not-true}
-use Rattle.notation.specs.Notation.{pick, with, if_equals_then_else_, every}
-use Rattle.notation.proofs.Every.{up-stop, up-end}
+use borrow.Author.Tests.{eqb-true, eqb-false, ltb-true, ltb-false}
+use Rattle.notation.specs.Notation.{pick, with, if_then_else_, if_equals_then_else_, upTo, every}
 use Rattle.semantics.specs.declared.Record.{Record}
 use Rattle.semantics.specs.Numbers.{procedureRecord, letRecord, ifRecord, recordLimit, inputCount}
 use Rattle.semantics.specs.Records.{recordAt}
@@ -64,10 +63,24 @@ told-next s n i {m} g h ex ec ey =
     rw (ey, ec, ex, g .is i h, add-one) (same-told n (getD (bindingsBelow s i) i 0) (partsOf (recordAt s i)) m (bindingsBelow s i) g)
 
 -- the test of record i by the list
-pub scoped-by : (s : List ℕ) (n i : ℕ) {m : List ℕ} {x : Record} {b c : Bool}
-    → Same n m (bindingsBelow s i) → i < n → x ≡ recordAt s i → b ≡ every (λ p. ltb p (getD m i 0 + inputCount)) (placesOf x) → b ≡ c → scopedOf s i ≡ c
+pub scoped-by : (s : List ℕ) (n i : ℕ) {m : List ℕ} {x : Record} {b : Bool}
+    → Same n m (bindingsBelow s i) → i < n → x ≡ recordAt s i → b ≡ every (λ p. ltb p (getD m i 0 + inputCount)) (placesOf x) → scopedOf s i ≡ b
 unfolding scopedOf with
-scoped-by s n i g h ex eb ec = rw (← g .is i h, ← ex) (sym eb ∙ ec)
+scoped-by s n i g h ex eb = rw (← g .is i h, ← ex) (sym eb)
+
+-- whether the records before i are in scope, after a record of the pass and at its end
+pub scoped-next : (s : List ℕ) (i : ℕ) {b c d : Bool} → upTo i (scopedOf s) ≡ b → scopedOf s i ≡ c → d ≡ (c && b) → upTo (i + 1) (scopedOf s) ≡ d
+unfolding upTo if_then_else_
+scoped-next s i {b} {c} h g e = rw (add-one, upTo, h, g, e) (go b c)
+  where
+    go : (b c : Bool) → pick b c false ≡ (c && b)
+    go true true = refl
+    go true false = refl
+    go false true = refl
+    go false false = refl
+
+pub scoped-end : (s : List ℕ) (n i : ℕ) {b c : Bool} → upTo i (scopedOf s) ≡ b → i ≤ n → n ≤ i → b ≡ c → c ≡ upTo n (scopedOf s)
+scoped-end s n i h l k e = let q : n ≡ i = omega arith in rw q (sym (h ∙ e))
 
 -- ---- a record has no more bindings than records before it
 
@@ -122,6 +135,3 @@ low-bindings s (suc i) =
 pub binding-low : (s : List ℕ) (n i : ℕ) {m : List ℕ} → Same n m (bindingsBelow s i) → i < n → getD m i 0 ≤ i
 unfolding Low
 binding-low s n i g h = rw (g .is i h) (low-bindings s i i)
-
--- for the ways out of the pass
-pub ruleset scoping = (up-stop, up-end, scoped-by, not-true)

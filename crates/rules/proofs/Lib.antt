@@ -2,3 +2,4 @@ pub mod Follow
 pub mod Held
 pub mod Trees
 pub mod Bindings
+pub mod Answers

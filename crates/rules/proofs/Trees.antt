@@ -165,5 +165,5 @@ pub ordered-by : (s : List ℕ) (n i : ℕ) {x : Record} {cs : List Part} {b d :
     → x ≡ recordAt s i → cs ≡ partsOf x → b ≡ every (insideOf i n) cs → b ≡ d → every (insideOf i n) (partsOf (recordAt s i)) ≡ d
 ordered-by s n i ex ec eb ed = rw (← ex, ← ec) (sym eb ∙ ed)
 
--- for the ways out of the pass
-pub ruleset trees = (not-ordered, not-once, linked-end, once-by, ordered-by, not-true)
+-- for the ways out within the pass
+pub ruleset trees = (not-ordered, not-once, once-by, ordered-by, not-true)

@@ -1,10 +1,12 @@
--- What the functions of this crate hand to each other: a record's children in a struct, the marks of the tree test, and lists of zeros. Assumes
--- nothing.
+-- What the functions of this crate hand to each other: a record's children in a struct, the marks of the tree test, lists of zeros, and
+-- the answer of the pass for the tests 6 and 7. Assumes nothing.
 use Prim.Native.Nat.{ℕ, _+_, _≤_, min}
 use mathlib.Core.List.{List, [], _∷_}
 use mathlib.Core.Path.{_≡_}
 use lib.ListN.{length, getD, set, take}
-use Rattle.semantics.specs.Rules.{Part, part}
+use Rattle.notation.specs.Notation.{unless_then_else_, upTo}
+use Rattle.semantics.specs.Numbers.{badTree, badPlace}
+use Rattle.semantics.specs.Rules.{Part, part, linkedOf, scopedOf}
 use Rattle.rules.specs.declared.Child.{Child}
 use Rattle.rules.specs.declared.Children.{Children}
 
@@ -34,3 +36,7 @@ markedOf (c ∷ cs) m = markedOf cs (bumpedOf m (c .child))
 pub record Cleared (n : ℕ) (m : List ℕ) : Type 0 where
   pub long : n ≤ length m
   pub zero : (j : ℕ) → getD m j 0 ≡ 0
+
+-- the first of the tests 6 and 7 that refuses a rule of n records; 0 where neither does
+unfoldable pub treeAndScopesOf : List ℕ → ℕ → ℕ
+treeAndScopesOf s n = unless upTo n (linkedOf s n) then badTree else unless upTo n (scopedOf s) then badPlace else 0

@@ -1,5 +1,5 @@
-// What is a rule: the tests 4 to 7 of document 01, each of which goes once over the records; and test 8, of what it is
-// evaluated with. Nothing is evaluated here, and nothing is kept. No public function has a `requires`.
+// What is a rule: the tests 4 to 7 of document 01, in one pass over the records for test 5 and one for 6 and 7; and
+// test 8, of what it is evaluated with. Nothing is evaluated here, and nothing is kept. No public function has a `requires`.
 use semantics::Record;
 use semantics::numbers::ABORT_RECORD;
 use semantics::numbers::ALLOWANCE_LIMIT;
@@ -21,6 +21,7 @@ use semantics::numbers::RULE_SIZE;
 use semantics::numbers::VARIABLE_RECORD;
 use semantics::numbers::WORD_DATUM;
 ghost use mathlib.Core.Path.{_≡_};
+ghost use mathlib.Core.Bool.{_&&_};
 ghost use mathlib.Core.List.{[], _∷_};
 ghost use Prim.Native.Nat.{_+_, _<_, _≤_, min};
 ghost use lib.Dec.{ltb};
@@ -29,9 +30,9 @@ ghost use Rattle.notation.specs.Notation.{upTo, every};
 ghost use Rattle.semantics.specs.Numbers.{recordLimit};
 ghost use Rattle.semantics.specs.Records.{recordAt};
 ghost use Rattle.semantics.specs.Rules.{badRuleSize, usesOf, shapedOf, partsOf, insideOf, onceOf};
-ghost use Rattle.semantics.specs.Rules.{linkedOf, placesOf, toldOf, scopedOf, testsOf, ruleRefusalOf};
+ghost use Rattle.semantics.specs.Rules.{placesOf, toldOf, testsOf, ruleRefusalOf};
 ghost use Rattle.semantics.specs.Evaluate.{badDepth};
-ghost use Rattle.rules.specs.Passes.{partOf, childrenOf, OneMore, bumpedOf, markedOf, Cleared};
+ghost use Rattle.rules.specs.Passes.{partOf, childrenOf, OneMore, bumpedOf, markedOf, Cleared, treeAndScopesOf};
 
 // The record at which a child stands, and how many bindings it has more than its parent.
 struct Child {
@@ -75,8 +76,7 @@ pub fn bad_depth(allowance: u16) -> bool
     ALLOWANCE_LIMIT < allowance
 }
 
-// The number of the first test of 5 to 7 that refuses a rule of n records; 0 where none does. Each test goes over all
-// records before the next begins.
+// The number of the first test of 5 to 7 that refuses a rule of n records; 0 where none does.
 fn tests(rule: &[u8], n: u16) -> u8
     requires { ⌜ n ≤ recordLimit ⌝ }
     ensures { λ r. ⌜ r ≡ testsOf (now (rule .entry)) n ⌝ }
@@ -84,13 +84,7 @@ fn tests(rule: &[u8], n: u16) -> u8
     if !shapes(rule, n) {
         return BAD_RECORD;
     }
-    if !tree(rule, n) {
-        return BAD_TREE;
-    }
-    if !scopes(rule, n) {
-        return BAD_PLACE;
-    }
-    0
+    tree_and_scopes(rule, n)
 }
 
 // Test 4: there are no bytes, too many, or not whole records.
@@ -166,36 +160,44 @@ fn uses(x: Record) -> u8
     NO_SUCH
 }
 
-// Test 6 lets the n records of a rule pass.
-fn tree(rule: &[u8], n: u16) -> bool
+// The number of the first test of 6 and 7 that refuses a rule of n records; 0 where neither does.
+fn tree_and_scopes(rule: &[u8], n: u16) -> u8
     requires { ⌜ n ≤ recordLimit ⌝ }
-    ensures { λ r. ⌜ r ≡ upTo n (linkedOf (now (rule .entry)) n) ⌝ }
+    ensures { λ r. ⌜ r ≡ treeAndScopesOf (now (rule .entry)) n ⌝ }
 {
     if n as usize <= FEW {
         let mut marks: [u8; FEW] = [0; FEW];
-        return tree_in(rule, n, &mut marks);
+        let mut bindings: [u16; FEW] = [0; FEW];
+        return tree_and_scopes_in(rule, n, &mut marks, &mut bindings);
     }
     let mut marks: [u8; RECORDS] = [0; RECORDS];
-    tree_in(rule, n, &mut marks)
+    let mut bindings: [u16; RECORDS] = [0; RECORDS];
+    tree_and_scopes_in(rule, n, &mut marks, &mut bindings)
 }
 
-// The same, with a list for the marks. Parents come first, so when the pass reaches a record, all that have it for a
-// child have marked it.
-fn tree_in(rule: &[u8], n: u16, marks: &mut [u8]) -> bool
-    requires { ⌜ Cleared n (now marks) ⌝ }
-    ensures { λ r. ⌜ r ≡ upTo n (linkedOf (now (rule .entry)) n) ⌝ }
+// The same, with a list for the marks and one for the bindings. Parents come first, so when the pass reaches a record,
+// all that have it for a child have marked it, and have told it its bindings; record 0 has none. A place out of scope
+// is only remembered, since a bad tree further on is refused before it.
+fn tree_and_scopes_in(rule: &[u8], n: u16, marks: &mut [u8], bindings: &mut [u16]) -> u8
+    requires { ⌜ n ≤ recordLimit ⌝ ∗ ⌜ Cleared n (now marks) ⌝ ∗ ⌜ Cleared n (now bindings) ⌝ }
+    ensures { λ r. ⌜ r ≡ treeAndScopesOf (now (rule .entry)) n ⌝ }
 {
+    let mut scoped = true;
     for i in 0..n {
-        let c = children_of(records::record_at(rule, i));
+        let x = records::record_at(rule, i);
+        let d = bindings[i as usize];
+        scoped = both(placed(x, d + INPUT_COUNT), scoped);
+        let c = children_of(x);
         if !ordered(c, i, n) {
-            return false;
+            return BAD_TREE;
         }
         if !once(i, marks[i as usize]) {
-            return false;
+            return BAD_TREE;
         }
         mark(marks, c);
+        tell(bindings, c, d);
     }
-    true
+    if scoped { 0 } else { BAD_PLACE }
 }
 
 // The children of a record: a procedure's body; both parts of a let; the branches of an if.
@@ -288,34 +290,11 @@ fn next(x: u8) -> u8
     if x == 0 { 1 } else { 2 }
 }
 
-// Test 7 lets the first n records pass.
-fn scopes(rule: &[u8], n: u16) -> bool
-    requires { ⌜ n ≤ recordLimit ⌝ }
-    ensures { λ r. ⌜ r ≡ upTo n (scopedOf (now (rule .entry))) ⌝ }
+// Both hold: a function, so that the pass has one way to go on from a place out of scope.
+fn both(a: bool, b: bool) -> bool
+    ensures { λ r. ⌜ r ≡ (a && b) ⌝ }
 {
-    if n as usize <= FEW {
-        let mut bindings: [u16; FEW] = [0; FEW];
-        return scopes_in(rule, n, &mut bindings);
-    }
-    let mut bindings: [u16; RECORDS] = [0; RECORDS];
-    scopes_in(rule, n, &mut bindings)
-}
-
-// The same, with a list for the bindings. It has each record's once the pass reaches it, since each record tells its
-// children theirs; record 0 has none.
-fn scopes_in(rule: &[u8], n: u16, bindings: &mut [u16]) -> bool
-    requires { ⌜ n ≤ recordLimit ⌝ ∗ ⌜ Cleared n (now bindings) ⌝ }
-    ensures { λ r. ⌜ r ≡ upTo n (scopedOf (now (rule .entry))) ⌝ }
-{
-    for i in 0..n {
-        let x = records::record_at(rule, i);
-        let d = bindings[i as usize];
-        if !placed(x, d + INPUT_COUNT) {
-            return false;
-        }
-        tell(bindings, children_of(x), d);
-    }
-    true
+    a && b
 }
 
 // The places in a record are below a limit.
