@@ -15,9 +15,8 @@ use Rattle.semantics.specs.declared.State.{State}
 use Rattle.semantics.specs.Steps.{Make, _>>=_, _▹_, give, each}
 use Rattle.semantics.specs.Merge.{assumedStep, assertedStep, mergeStatesOf, noneGiven, valueStepOf, mergeValuesOf, finishOf, mergeOf}
 use Rattle.terms.specs.Gives.{Gives, from}
-use Rattle.terms.proofs.Gives.{then-stop, then-on}
 use Rattle.merge.specs.Branches.{noBranch}
-use Rattle.merge.specs.Passes.{Carry, onward, stateStep, passStep, met, placeOf, passOf, mergedOf}
+use Rattle.merge.specs.Passes.{Carry, onward, stateStep, passStep, met, placeOf, passOf, mergedOf, endOf}
 use Rattle.merge.proofs.Lists.{replicate-snoc, reverse-replicate, getD-reverse, from-take, from-past, from-append}
 use Rattle.merge.proofs.Onward.{give-then, then-then, then-as, map-then, then-map, each-append, each-one, onward-on, onward-join, no-turn, one-turn}
 
@@ -85,18 +84,28 @@ module _ (x : State) (bs : List Branch) where
         (onward-on j (passOf 2 bs) (onward-on i (passOf 1 bs) f g) h)
 
   -- the halt test follows
-  merged-finish : mergedOf x bs >>= (λ m. finishOf (m .0) (m .1)) ≡ mergeOf x bs
+  merged-finish : mergedOf x bs >>= endOf ≡ mergeOf x bs
   unfolding mergedOf mergeOf
   merged-finish =
-      then-then (λ y. mergeValuesOf bs ▹ λ v. (y, v)) (λ m. finishOf (m .0) (m .1)) (mergeStatesOf x bs)
-      ∙ then-as (mergeStatesOf x bs) (λ y. map-then (mergeValuesOf bs) (λ v. (y, v)) (λ m. finishOf (m .0) (m .1)))
+      then-then (λ y. mergeValuesOf bs ▹ λ v. (y, v)) endOf (mergeStatesOf x bs)
+      ∙ then-as (mergeStatesOf x bs) (λ y. map-then (mergeValuesOf bs) (λ v. (y, v)) endOf)
 
-  module _ {s y : List ℕ} {n r c : ℕ} {t : State} {v : Folded} (g : Gives (mergedOf x bs) s n r c 0 (t, v) y) where
-    pub merged-stop : (r ≡ 0 → ⊥) → {a : Result} → Gives (mergeOf x bs) s n r c 0 a y
-    merged-stop h {a} = subst (λ (m : Make Result). Gives m s n r c 0 a y) merged-finish (then-stop (λ m. finishOf (m .0) (m .1)) g h)
+  module _ {s y z : List ℕ} {n r c q e : ℕ} {m : Carry} {a : Result} where
+    pub merged-then : Gives (mergedOf x bs) s n r c 0 m y → Gives (onward r m endOf) y c q e 0 a z → Gives (mergeOf x bs) s n q e 0 a z
+    merged-then g k = subst (λ (l : Make Result). Gives l s n q e 0 a z) merged-finish (onward-on m endOf g k)
 
-    pub merged-on : r ≡ 0 → {q e : ℕ} {a : Result} {z : List ℕ} → Gives (finishOf t v) y c q e 0 a z → Gives (mergeOf x bs) s n q e 0 a z
-    merged-on h {q} {e} {a} {z} k = subst (λ (m : Make Result). Gives m s n q e 0 a z) merged-finish (then-on (λ m. finishOf (m .0) (m .1)) g h k)
+-- ---- two branches
+module _ (a b : Branch) {s y z : List ℕ} {n q c v e : ℕ} {i j : Carry} where
+  pub two-turns : (p r : ℕ) (x : Carry) → Gives (onward r x (λ x. passStep p x a)) s n q c 0 i y → Gives (onward q i (λ x. passStep p x b)) y c v e 0 j z
+      → Gives (onward r x (λ x. each (passStep p) x (a ∷ b ∷ []))) s n v e 0 j z
+  unfolding each
+  two-turns p r x g k = onward-join (λ x. passStep p x a) (λ x. passStep p x b) (λ x. then-as (passStep p x a) (λ y. sym (each-one (passStep p) y b))) r x g k
+
+  pub in-passes-two : (x : State) {u d : ℕ} {k : Carry} {w : List ℕ} → Gives (onward 0 (before x) (λ x. each (passStep 0) x (a ∷ b ∷ []))) s n q c 0 i y
+      → Gives (onward q i (λ x. each (passStep 1) x (a ∷ b ∷ []))) y c v e 0 j z → Gives (onward v j (λ x. each (passStep 2) x (b ∷ a ∷ []))) z e u d 0 k w
+      → Gives (mergedOf x (a ∷ b ∷ [])) s n u d 0 k w
+  unfolding passOf met if_equals_then_else_
+  in-passes-two x f g h = in-passes x (a ∷ b ∷ []) f g h
 
 -- ---- the branches in the order in which they are met
 module _ (p i n : ℕ) where

@@ -7,7 +7,7 @@ use Rattle.semantics.specs.declared.Folded.{Folded}
 use Rattle.semantics.specs.declared.Result.{Result}
 use Rattle.semantics.specs.declared.State.{State}
 use Rattle.semantics.specs.Steps.{Make, _>>=_, _▹_, refuse, each}
-use Rattle.semantics.specs.Merge.{assumedStep, assertedStep, mergeStatesOf, valueStepOf, mergeValuesOf}
+use Rattle.semantics.specs.Merge.{assumedStep, assertedStep, mergeStatesOf, valueStepOf, mergeValuesOf, finishOf}
 use Rattle.terms.specs.Gives.{Gives}
 use Rattle.merge.specs.declared.Carried.{Carried}
 use Rattle.merge.specs.declared.Merged.{Merged}
@@ -53,6 +53,10 @@ passOf p bs x = each (passStep p) x (met p bs)
 unfoldable pub mergedOf : State → List Branch → Make Carry
 mergedOf x bs = mergeStatesOf x bs >>= λ y. mergeValuesOf bs ▹ λ v. (y, v)
 
+-- the halt test after the passes
+abbrev pub endOf : Carry → Make Result
+endOf x = finishOf (x .0) (x .1)
+
 -- From m, with the table s, the step f comes to r and the table y.
 abbrev pub Carries : Carried → List ℕ → (Carry → Make Carry) → Carried → List ℕ → Type 0
 Carries m s f r y = Gives (onward (m .refusal) (m .state, m .folded) f) s (m .count) (r .refusal) (r .count) 0 (r .state, r .folded) y
@@ -60,3 +64,7 @@ Carries m s f r y = Gives (onward (m .refusal) (m .state, m .folded) f) s (m .co
 -- From the table s with n terms the merge m comes to r, and leaves the table y.
 abbrev pub Merges : Make Result → List ℕ → ℕ → Merged → List ℕ → Type 0
 Merges m s n r y = Gives m s n (r .refusal) (r .count) 0 (r .result) y
+
+-- From m, with the table s, the halt test comes to r.
+abbrev pub Ends : Carried → List ℕ → Merged → Type 0
+Ends m s r = Merges (onward {A = Carry} (m .refusal) (m .state, m .folded) endOf) s (m .count) r s

@@ -7,14 +7,16 @@ use semantics::State;
 use semantics::numbers;
 use states::Standing;
 ghost use mathlib.Core.Path.{_≡_};
+ghost use mathlib.Core.List.{[], _∷_};
 ghost use Prim.Native.Nat.{_≤_, _<_};
 ghost use lib.ListN.{take, replicate};
 ghost use Rattle.semantics.specs.Numbers.{leafLimit};
-ghost use Rattle.semantics.specs.Merge.{branchOf, valueStepOf, finishOf, mergeOf};
+ghost use Rattle.semantics.specs.Steps.{each};
+ghost use Rattle.semantics.specs.Merge.{branchOf, valueStepOf, mergeOf};
 ghost use Rattle.terms.specs.Gives.{Gives, from};
 ghost use Rattle.states.specs.Stands.{Stands};
 ghost use Rattle.merge.specs.Branches.{noBranch};
-ghost use Rattle.merge.specs.Passes.{stateStep, passStep, placeOf, passOf, mergedOf, Carries, Merges};
+ghost use Rattle.merge.specs.Passes.{stateStep, passStep, placeOf, passOf, mergedOf, Carries, Merges, Ends};
 
 // What stands in a list past its branches.
 pub const NO_BRANCH: Branch = Branch {
@@ -68,20 +70,15 @@ pub fn merge(
     ensures { λ r. ⌜ Merges (mergeOf x (from noBranch branches 0 n)) (now (table .entry)) count r (now (table .exit)) ⌝ }
 {
     let carried = merge_passes(table, count, x, branches, n);
-    let state = carried.state;
-    if carried.refusal != 0 {
-        return Merged {
-            refusal: carried.refusal,
-            count: carried.count,
-            result: Result {
-                state: state,
-                value: 0,
-                halted: true,
-            },
-        };
-    }
-    let folded = carried.folded;
-    finish(table, carried.count, state, folded)
+    finish(table, carried)
+}
+
+// The result of two branches, merged over the state x.
+pub fn merge_two(table: &mut [u8], count: u16, x: State, a: Branch, b: Branch) -> Merged
+    ensures { λ r. ⌜ Merges (mergeOf x (a ∷ b ∷ [])) (now (table .entry)) count r (now (table .exit)) ⌝ }
+{
+    let carried = passes_two(table, count, x, a, b);
+    finish(table, carried)
 }
 
 // A result under its guard.
@@ -225,6 +222,32 @@ fn merge_passes(
     merge_pass(branches, n, VALUE_PASS, asserted, table)
 }
 
+// One pass over two branches, in the order in which it meets them.
+fn pass_two(pass: u8, m: Carried, a: Branch, b: Branch, table: &mut [u8]) -> Carried
+    ensures { λ r. ⌜ Carries m (now (table .entry)) (λ x. each (passStep pass) x (a ∷ b ∷ [])) r (now (table .exit)) ⌝ }
+{
+    let first = m.merging(pass, a, table);
+    first.merging(pass, b, table)
+}
+
+// The three passes over two branches, the values from the right.
+fn passes_two(table: &mut [u8], count: u16, x: State, a: Branch, b: Branch) -> Carried
+    ensures { λ r. ⌜ Gives (mergedOf x (a ∷ b ∷ [])) (now (table .entry)) count (r .refusal) (r .count) 0 (r .state, r .folded) (now (table .exit)) ⌝ }
+{
+    let start = Carried {
+        refusal: 0,
+        count: count,
+        state: x,
+        folded: Folded {
+            any: false,
+            value: 0,
+        },
+    };
+    let assumed = pass_two(ASSUMED_PASS, start, a, b, table);
+    let asserted = pass_two(ASSERTED_PASS, assumed, a, b, table);
+    pass_two(VALUE_PASS, asserted, b, a, table)
+}
+
 // A branch's S, or its T.
 fn merge_state(table: &mut [u8], count: u16, x: State, pass: u8, b: Branch) -> Standing
     ensures { λ r. ⌜ Stands (stateStep pass x b) (now (table .entry)) count r (now (table .exit)) ⌝ }
@@ -273,31 +296,40 @@ fn merge_value(table: &mut [u8], count: u16, b: Branch, later: Folded) -> Valued
     }
 }
 
-// All halted, or none ran: halt. Else halt only if S or T is false.
-fn finish(table: &[u8], count: u16, x: State, v: Folded) -> Merged
-    ensures { λ r. ⌜ Merges (finishOf x v) (now (table .entry)) count r (now (table .entry)) ⌝ }
+// All halted, or none ran: halt. Else halt only if S or T is false. After a refused step, that refusal.
+fn finish(table: &[u8], m: Carried) -> Merged
+    ensures { λ r. ⌜ Ends m (now (table .entry)) r ⌝ }
 {
+    let x = m.state;
+    let v = m.folded;
     let halt = Result {
         state: x,
         value: 0,
         halted: true,
     };
+    if m.refusal != 0 {
+        return Merged {
+            refusal: m.refusal,
+            count: m.count,
+            result: halt,
+        };
+    }
     let standing = Standing {
         refusal: 0,
-        count: count,
+        count: m.count,
         state: x,
     };
     if v.any {
         if standing.halts(table) {
             return Merged {
                 refusal: 0,
-                count: count,
+                count: m.count,
                 result: halt,
             };
         }
         return Merged {
             refusal: 0,
-            count: count,
+            count: m.count,
             result: Result {
                 state: x,
                 value: v.value,
@@ -307,7 +339,7 @@ fn finish(table: &[u8], count: u16, x: State, v: Folded) -> Merged
     }
     Merged {
         refusal: 0,
-        count: count,
+        count: m.count,
         result: halt,
     }
 }

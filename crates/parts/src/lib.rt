@@ -137,12 +137,11 @@ fn unforked(refusal: u8, count: u16, state: State) -> Forked
 pub fn join(table: &mut [u8], state: State, g: u16, h: u16, first: Out, second: Out) -> Out
     ensures { λ r. ⌜ Gives (mergeOf state (branchOf g (first .result) ∷ branchOf h (second .result) ∷ [])) (now (table .entry)) (second .count) (r .refusal) (r .count) 0 (r .result) (now (table .exit)) × (r .used ≡ max (first .used) (second .used)) ⌝ }
 {
-    let yes = first.result;
-    let no = second.result;
-    let mut list = [merge::NO_BRANCH; numbers::LEAF_LIMIT];
-    list[0] = merge::branch(g, yes);
-    list[1] = merge::branch(h, no);
-    let merged = merge::merge(table, second.count, state, list, 2);
+    let a = first.result;
+    let b = second.result;
+    let yes = merge::branch(g, a);
+    let no = merge::branch(h, b);
+    let merged = merge::merge_two(table, second.count, state, yes, no);
     let result = merged.result;
     Out {
         refusal: merged.refusal,

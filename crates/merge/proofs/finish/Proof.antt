@@ -2,9 +2,13 @@
 use borrow.Author.Needs.{needs}
 use Rattle.semantics.specs.Merge.{finishOf}
 use Rattle.terms.proofs.Gives.{steps}
+use Rattle.merge.proofs.Onward.{onward-stop, onward-start}
 use Rattle.merge.proofs.finish.Statement.{statement}
 use Rattle.merge.proofs.finish.Tie as tie
 
 pub finish-spec : {M : Type 1} → statement M
 unfolding finishOf
-finish-spec = tie.close (tie.spec (λ c κs. search needs) (λ c. search steps depth 12) (λ c. search steps depth 12) (λ c. search steps depth 12))
+finish-spec =
+    tie.close
+    (tie.spec (λ c. search onward-stop) (λ c κs. search needs) (λ c. search (onward-start, steps) depth 12) (λ c. search (onward-start, steps) depth 12)
+    (λ c. search (onward-start, steps) depth 12))
