@@ -2,3 +2,4 @@ pub mod Loops
 pub mod Zeros
 pub mod Marks
 pub mod Whole
+pub mod Begun

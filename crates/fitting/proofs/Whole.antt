@@ -2,14 +2,14 @@
 use mathlib.Core.Path.{_≡_, refl, sym, _∙_}
 use mathlib.Core.Bool.{Bool, true, false}
 use mathlib.Core.List.{List}
-use Prim.Native.Nat.{ℕ, _-_}
+use Prim.Native.Nat.{ℕ}
 use lib.ListN.{length, replicate}
 use Rattle.notation.specs.Notation.{every}
 use Rattle.semantics.specs.declared.Input.{Input}
 use Rattle.semantics.specs.declared.Session.{Session}
 use Rattle.semantics.specs.Numbers.{leastTable}
 use Rattle.semantics.specs.Terms.{termsIn}
-use Rattle.semantics.specs.Opening.{badTableSize, inputTaken, opening}
+use Rattle.semantics.specs.Opening.{badTableSize, inputTaken}
 use Rattle.semantics.specs.Fits.{fitsOf}
 use Rattle.records.specs.Wiped.{wiped}
 use Rattle.terms.specs.Gives.{Gives}

@@ -68,9 +68,13 @@ fourZero x y z w = every isZero x && (every isZero y && (every isZero z && every
 abbrev pub formulasFit : Session → List Term → Bool
 formulasFit x ts = namesTruth ts (x .state .assumed) && (namesTruth ts (x .state .asserted) && leb (x .accepted) ruleLimit)
 
--- the layout, repeats and the tail
+-- the tail and the formulas
+abbrev pub restFits : Session → List ℕ → Bool
+restFits x s = every isZero (drop (8 * x .count) s) && formulasFit x (termsIn s (x .count))
+
+-- the layout and repeats before them
 abbrev pub recordsFit : Session → List ℕ → Bool
-recordsFit x s = wellFormed (x .accepted) (termsIn s (x .count)) && (every isZero (drop (8 * x .count) s) && formulasFit x (termsIn s (x .count)))
+recordsFit x s = wellFormed (x .accepted) (termsIn s (x .count)) && restFits x s
 
 -- the count and the beginning, with an opening's terms os
 abbrev pub openingFits : Session → List ℕ → List Term → Bool

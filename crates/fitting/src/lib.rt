@@ -14,7 +14,7 @@ ghost use Rattle.notation.specs.Notation.{every};
 ghost use Rattle.semantics.specs.Terms.{wordLaid, termsIn, namesTruth, namesChoice, namesBinding, namesValue, operandsLaidOut, laidOut, wellFormed};
 ghost use Rattle.semantics.specs.Fits.{sameTerms, noFree, isZero, fitsOf};
 ghost use Rattle.terms.specs.Search.{findAbove};
-ghost use Rattle.fitting.specs.Formed.{onlyA, choiceLaid, procedureLaid, nextLaid, bindingLaid, wordsLaid, timesOf, markOf, Holds, fourZero, formulasFit, recordsFit, openingFits};
+ghost use Rattle.fitting.specs.Formed.{onlyA, choiceLaid, procedureLaid, nextLaid, bindingLaid, wordsLaid, timesOf, markOf, Holds, fourZero, formulasFit, restFits, recordsFit, openingFits};
 ghost use Rattle.fitting.specs.Opens.{Enters, Opens};
 
 // Whether a number names a choice among the first n terms.
@@ -398,20 +398,29 @@ fn formulas_fit(table: &[u8], session: Session) -> bool
     false
 }
 
-fn records_fit(table: &[u8], session: Session) -> bool
-    ensures { λ r. ⌜ r ≡ recordsFit session (now (table .entry)) ⌝ }
+// The tail and the formulas.
+fn rest_fits(table: &[u8], session: Session) -> bool
+    ensures { λ r. ⌜ r ≡ restFits session (now (table .entry)) ⌝ }
 {
-    if well_formed(table, session.count, session.accepted) {
-        if zero_from(table, 8 * (session.count as usize)) {
-            return formulas_fit(table, session);
-        }
-        return false;
+    if zero_from(table, 8 * (session.count as usize)) {
+        return formulas_fit(table, session);
     }
     false
 }
 
-// Whether a table begins with the n terms of another, and the rest of it fits.
+fn records_fit(table: &[u8], session: Session) -> bool
+    ensures { λ r. ⌜ r ≡ recordsFit session (now (table .entry)) ⌝ }
+{
+    if well_formed(table, session.count, session.accepted) {
+        return rest_fits(table, session);
+    }
+    false
+}
+
+// Whether a table begins with the n terms of another, which are well formed, and the rest of it fits. Where it has no
+// more terms, none is looked at again.
 fn opening_fits(table: &[u8], fresh: &[u8], n: u16, session: Session) -> bool
+    requires { ⌜ wellFormed 0 (termsIn (now fresh) n) ≡ true ⌝ }
     ensures { λ r. ⌜ r ≡ openingFits session (now (table .entry)) (termsIn (now (fresh .entry)) n) ⌝ }
 {
     if session.count < n {
@@ -422,6 +431,9 @@ fn opening_fits(table: &[u8], fresh: &[u8], n: u16, session: Session) -> bool
     }
     if begins(table, fresh, n) {} else {
         return false;
+    }
+    if session.count == n {
+        return rest_fits(table, session);
     }
     if none_free(table, n, session.count) {
         return records_fit(table, session);

@@ -13,7 +13,7 @@ use Rattle.semantics.specs.declared.Folded.{Folded}
 use Rattle.semantics.specs.declared.Result.{Result}
 use Rattle.semantics.specs.declared.State.{State}
 use Rattle.semantics.specs.Steps.{Make, _>>=_, _▹_, give, each}
-use Rattle.semantics.specs.Merge.{assumedStep, assertedStep, mergeStatesOf, noneGiven, valueStepOf, mergeValuesOf, finishOf, mergeOf}
+use Rattle.semantics.specs.Merge.{assumedStep, assertedStep, mergeStatesOf, noneGiven, valueStepOf, mergeValuesOf, mergeOf}
 use Rattle.terms.specs.Gives.{Gives, from}
 use Rattle.merge.specs.Branches.{noBranch}
 use Rattle.merge.specs.Passes.{Carry, onward, stateStep, passStep, met, placeOf, passOf, mergedOf, endOf}

@@ -1,7 +1,7 @@
 -- What test 3 says of a session and a table: the table is one that steps are taken on, and the session names what it should. Assumes nothing.
 use mathlib.Core.Path.{_≡_, refl, sym, ap, _∙_}
 use mathlib.Core.Bool.{Bool, true, false, not}
-use mathlib.Core.List.{List, [], _∷_}
+use mathlib.Core.List.{List, []}
 use Prim.Native.Nat.{ℕ, zero, suc, _+_, _-_, _*_, _<_, _≤_}
 use native.Mathlib.Omega.{arith}
 use lib.ListN.{length, getD, take, drop, length-drop, List·getD-eq-default}
@@ -10,32 +10,21 @@ use lib.Dec.{ltb}
 use borrow.Author.Tests.{eqb-true, leb-true, ltb-true, ltb-false}
 use Rattle.notation.specs.Notation.{every}
 use Rattle.notation.proofs.Every.{every-at}
-use Rattle.semantics.specs.declared.Term.{Term}
-use Rattle.semantics.specs.declared.Input.{Input}
 use Rattle.semantics.specs.declared.Session.{Session}
 use Rattle.semantics.specs.Numbers.{bindingTerm, inputCount, ruleLimit}
 use Rattle.semantics.specs.Records.{recordsIn}
-use Rattle.semantics.specs.Terms.{termsIn, sameOf, wellFormed}
+use Rattle.semantics.specs.Terms.{termsIn, wellFormed}
 use Rattle.semantics.specs.Opening.{inputTaken, opening}
-use Rattle.semantics.specs.Fits.{sameTerms, noFree, isZero, fitsOf}
+use Rattle.semantics.specs.Fits.{noFree, isZero, fitsOf}
 use Rattle.terms.proofs.Tables.{terms-length}
 use Rattle.typing.proofs.Grown.{Grown, still, more, grown-on, at-lower, at-newest, Sort, sort-grown, truth-at}
-use Rattle.typing.proofs.Formed.{never, both, same-true}
+use Rattle.typing.proofs.Formed.{never, both}
 use Rattle.typing.proofs.Does.{Fit, there-grown}
 use Rattle.typing.proofs.Later.{formed-later}
 use Rattle.typing.proofs.States.{Stated}
 use Rattle.opening.proofs.Opened.{Sized, sized}
-use Rattle.opening.proofs.Begins.{constants, Begins, begins}
-
-same-terms : (ts us : List Term) → sameTerms ts us ≡ true → ts ≡ us
-unfolding sameTerms
-same-terms [] [] h = refl
-same-terms [] (u ∷ us) h = never h
-same-terms (t ∷ ts) [] h = never h
-same-terms (t ∷ ts) (u ∷ us) h = both (sameOf t u) (sameTerms ts us) h λ p q. cons (same-true t u p) (same-terms ts us q)
-  where
-    cons : {a b : Term} {l m : List Term} → a ≡ b → l ≡ m → _≡_ {A = List Term} (a ∷ l) (b ∷ m)
-    cons e f = rw (e, f)
+use Rattle.opening.proofs.Begins.{constants}
+use Rattle.fitting.proofs.Begun.{same-terms, begins-all}
 
 zero-at : (s : List ℕ) (n k : ℕ) → every isZero (drop n s) ≡ true → n ≤ k → getD s k 0 ≡ 0
 unfolding isZero
@@ -63,11 +52,6 @@ pub record Fitting (x : Session) (s : List ℕ) : Type 0 where
   pub room : x .count * 8 ≤ length s
   pub tail : (k : ℕ) → x .count * 8 ≤ k → getD s k 0 ≡ 0
   pub few : x .accepted ≤ ruleLimit
-
--- sixteen inputs are some
-begins-all : (xs : List Input) → length xs ≡ inputCount → Begins xs
-begins-all [] n = absurd (omega arith)
-begins-all (x ∷ xs) n = begins x xs n
 
 module _ (x : Session) (s : List ℕ) (n : length (x .inputs) ≡ inputCount) where
   facts : Sized (length s) → every inputTaken (x .inputs) ≡ true → length (opening (x .inputs) .terms) ≤ x .count → x .count ≤ recordsIn s
