@@ -283,7 +283,7 @@ fn formed_by(
     true
 }
 
-// The same, with as many marks as the count of terms asks for.
+// Whether the first n terms are well formed, tested with as many marks as their count asks for.
 fn well_formed(table: &[u8], n: u16, accepted: u16) -> bool
     ensures { λ r. ⌜ r ≡ wellFormed accepted (termsIn (now (table .entry)) n) ⌝ }
 {
@@ -367,7 +367,8 @@ fn rest_zero(s: &[u8], at: usize) -> bool
     true
 }
 
-// The same, where there may be much to look at: its four quarters go together, which is quicker than one after the other.
+// Whether a slice is zero from a place on, where there may be much to look at: its four quarters go together, which is
+// quicker than one after the other.
 fn zero_from(s: &[u8], at: usize) -> bool
     ensures { λ r. ⌜ r ≡ every isZero (drop at (now (s .entry))) ⌝ }
 {

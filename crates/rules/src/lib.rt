@@ -175,9 +175,9 @@ fn tree_and_scopes(rule: &[u8], n: u16) -> u8
     tree_and_scopes_in(rule, n, &mut marks, &mut bindings)
 }
 
-// The same, with a list for the marks and one for the bindings. Parents come first, so when the pass reaches a record,
-// all that have it for a child have marked it, and have told it its bindings; record 0 has none. A place out of scope
-// is only remembered, since a bad tree further on is refused before it.
+// The tests 6 and 7 in one pass over the records, with a lent list for the marks and one for the bindings. Parents come
+// first, so when the pass reaches a record, all that have it for a child have marked it, and have told it its bindings;
+// record 0 has none. A place out of scope is only remembered, since a bad tree further on is refused before it.
 fn tree_and_scopes_in(rule: &[u8], n: u16, marks: &mut [u8], bindings: &mut [u16]) -> u8
     requires { ⌜ n ≤ recordLimit ⌝ ∗ ⌜ Cleared n (now marks) ⌝ ∗ ⌜ Cleared n (now bindings) ⌝ }
     ensures { λ r. ⌜ r ≡ treeAndScopesOf (now (rule .entry)) n ⌝ }
