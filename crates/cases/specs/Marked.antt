@@ -84,11 +84,10 @@ printedInput = (freeTruth ∷ replicate (inputBytes - 1) 0) ++ printedRule
 -- its first line and all six terms
 unfoldable pub printedLines : List Line
 printedLines =
-    out (24 ∷ 21 ∷ 20 ∷ 25 ∷ [])
+    out (23 ∷ 2 ∷ 20 ∷ 24 ∷ [])
     ∷ numbers (19 ∷ 5 ∷ 32 ∷ 2 ∷ 0 ∷ 0 ∷ [])
     ∷ numbers (20 ∷ 2 ∷ 0 ∷ 7 ∷ 0 ∷ 0 ∷ [])
-    ∷ numbers (21 ∷ 5 ∷ 32 ∷ 19 ∷ 0 ∷ 0 ∷ [])
-    ∷ numbers (22 ∷ 5 ∷ 34 ∷ 19 ∷ 2 ∷ 0 ∷ [])
-    ∷ numbers (23 ∷ 5 ∷ 34 ∷ 21 ∷ 19 ∷ 0 ∷ [])
-    ∷ numbers (24 ∷ 5 ∷ 33 ∷ 22 ∷ 23 ∷ 0 ∷ [])
+    ∷ numbers (21 ∷ 5 ∷ 34 ∷ 19 ∷ 2 ∷ 0 ∷ [])
+    ∷ numbers (22 ∷ 5 ∷ 34 ∷ 2 ∷ 19 ∷ 0 ∷ [])
+    ∷ numbers (23 ∷ 5 ∷ 33 ∷ 21 ∷ 22 ∷ 0 ∷ [])
     ∷ []

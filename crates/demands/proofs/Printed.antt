@@ -21,7 +21,6 @@ use Rattle.demands.proofs.Demand3.{demand-3}
 record Known : Type 0 where
   opens : Opening.openOf Marked.printedInputs (replicate mostTable 0) .0 .refusal ≡ 0
   accepted : length (Marked.printedDesk .rules) ≡ 1
-  count : Marked.printedDesk .session .count ≡ 25
   taken-true : Reading.numbersTaken Marked.printedInputs (Marked.firstNumber 1) ≡ true
   taken-false : Reading.numbersTaken Marked.printedInputs (Marked.firstNumber 0) ≡ true
   run-true : PlainRun.endedOutcome (History.runOfRules Marked.printedInputs (Marked.firstNumber 1) (Marked.printedDesk .rules)) ≡ Word 7
@@ -29,19 +28,20 @@ record Known : Type 0 where
 
 known : Known
 unfolding computing Table.desk
-known = record { opens = refl; accepted = refl; count = refl; taken-true = refl; taken-false = refl; run-true = refl; run-false = refl }
+known = record { opens = refl; accepted = refl; taken-true = refl; taken-false = refl; run-true = refl; run-false = refl }
 
 stands : Stands Marked.printedInputs Marked.printedDesk
 unfolding Table.desk
 stands = demand-3 Marked.printedInputs (replicate mostTable 0) refl (known .opens) (Table.call Marked.printedRule 100 ∷ [])
 
-module _ (work : List ℕ) (long : 25 ≤ length work) where
+-- with a work list that 15 does not refuse
+module _ (work : List ℕ) (long : Marked.printedDesk .session .count ≤ length work) where
   pub printed-true : Reading.readOf (Marked.printedDesk .session) (Marked.printedDesk .table) (Marked.firstNumber 1) (Marked.printedDesk .result) work ≡ (Word 7, replicate (length work) 0)
   printed-true =
-      let a = known .accepted in let c = known .count in
-      stands .reads (omega arith) (Marked.firstNumber 1) work refl (known .taken-true) (omega arith) ∙ ap (λ o. (o, replicate (length work) 0)) (known .run-true)
+      let a = known .accepted in
+      stands .reads (omega arith) (Marked.firstNumber 1) work refl (known .taken-true) long ∙ ap (λ o. (o, replicate (length work) 0)) (known .run-true)
 
   pub printed-false : Reading.readOf (Marked.printedDesk .session) (Marked.printedDesk .table) (Marked.firstNumber 0) (Marked.printedDesk .result) work ≡ (Error, replicate (length work) 0)
   printed-false =
-      let a = known .accepted in let c = known .count in
-      stands .reads (omega arith) (Marked.firstNumber 0) work refl (known .taken-false) (omega arith) ∙ ap (λ o. (o, replicate (length work) 0)) (known .run-false)
+      let a = known .accepted in
+      stands .reads (omega arith) (Marked.firstNumber 0) work refl (known .taken-false) long ∙ ap (λ o. (o, replicate (length work) 0)) (known .run-false)

@@ -16,7 +16,7 @@ use Rattle.semantics.specs.Numbers.{callTooWide, termLimit}
 use Rattle.semantics.specs.Records.{recordAt}
 use Rattle.semantics.specs.Fits.{noFree}
 use Rattle.semantics.specs.Steps.{Make, _>>=_, _▹_, give, refuse, each, reads, makeOf}
-use Rattle.semantics.specs.Factory.{notOf, andOf, orOf, impliesOf, choiceOf, truthOf, isWordOf, isProcedureOf, constantOf, operatorTermOf}
+use Rattle.semantics.specs.Factory.{notOf, andOf, orOf, impliesOf, choiceOf, truthOf, isWordOf, isProcedureOf, constantOf, zeroFoldOf, operatorTermOf}
 use Rattle.semantics.specs.States.{mergeAssumedOf, mergeAssertedOf, assumeOf, assertOf}
 use Rattle.semantics.specs.Walk.{leafOf, Walk, sideOf, leftSideOf, rightSideOf, sidesOf, nodeOf, walkOf, orTargetOf, aimOf}
 use Rattle.semantics.specs.Merge.{assumedStep, assertedStep, mergeStatesOf, valueStepOf, mergeValuesOf, finishOf, mergeOf}
@@ -68,7 +68,9 @@ module _ (R : (A : Type 0) → Make A → Make A → Type 0) (kept : Congruence 
   -- ---- the factory
   pub kept-not : (x : ℕ) → Self (notOf x)
   unfolding noFree notOf
-  kept-not x = kept .reading _ _ _ (λ k. kept-eq (kept .giving _) (kept-eq (kept .giving _) (kept .making _ refl) _ _) _ _)
+  kept-not x =
+      kept .reading _ _ _ (λ k. kept-eq (kept .giving _) (kept-eq (kept .giving _) (kept .reading _ _ _ (λ t.
+      kept-with _ _ _ (kept-if (kept .giving _) (kept .making _ refl) _))) _ _) _ _)
 
   kept-and : (x y : ℕ) → Self (andOf x y)
   unfolding noFree andOf
@@ -88,7 +90,7 @@ module _ (R : (A : Type 0) → Make A → Make A → Type 0) (kept : Congruence 
 
   kept-choice : (g x y : ℕ) → Self (choiceOf g x y)
   unfolding noFree choiceOf
-  kept-choice g x y = kept .reading _ _ _ (λ k. kept-eq (kept .giving _) (kept-eq (kept .giving _) (kept .making _ refl) _ _) _ _)
+  kept-choice g x y = kept .reading _ _ _ (λ k. kept-eq (kept .giving _) (kept-eq (kept .giving _) (kept-eq (kept .giving _) (kept .making _ refl) _ _) _ _) _ _)
 
   pub kept-truth : (x : ℕ) → Self (truthOf x)
   unfolding noFree truthOf
@@ -106,11 +108,17 @@ module _ (R : (A : Type 0) → Make A → Make A → Type 0) (kept : Congruence 
   unfolding noFree constantOf
   kept-constant op w = kept-with _ _ _ (kept-if (kept-with _ _ _ (kept .giving _)) (kept .making _ refl) _)
 
+  kept-zero-fold : (op x y : ℕ) → Self (zeroFoldOf op x y)
+  unfolding noFree zeroFoldOf
+  kept-zero-fold op x y =
+      kept-with _ _ _ (kept-if (kept .reading _ _ _ (λ t. kept-with _ _ _ (kept-if (kept .making _ refl) (kept .reading _ _ _ (λ u.
+      kept-with _ _ _ (kept-if (kept .making _ refl) (kept .making _ refl) _))) _))) (kept .making _ refl) _)
+
   kept-operator-term : (op x y : ℕ) → Self (operatorTermOf op x y)
-  unfolding noFree operatorTermOf
+  unfolding operatorTermOf
   kept-operator-term op x y =
       kept .reading _ _ _ (λ t. kept-eq (kept-with _ _ _ (kept-eq (kept-with _ _ _ (kept-with _ _ _ (kept-constant op _))) (kept .reading _ _ _ (λ u.
-      kept-eq (kept-with _ _ _ (kept-with _ _ _ (kept-with _ _ _ (kept-constant op _)))) (kept .making _ refl) _ _)) _ _)) (kept .making _ refl) _ _)
+      kept-eq (kept-with _ _ _ (kept-with _ _ _ (kept-with _ _ _ (kept-constant op _)))) (kept-zero-fold op x y) _ _)) _ _)) (kept-zero-fold op x y) _ _)
 
   -- ---- the state
   kept-assumed : (x : State) (g s : ℕ) → Self (mergeAssumedOf x g s)

@@ -1,10 +1,11 @@
 // The factory of terms, the only maker of them: the terms by kind, and formulas, choices and operators, folded where
-// document 01 folds. Each function promises what its definition gives on all arguments. None has a `requires`.
+// documents 01 and 02 fold. Each function promises what its definition gives on all arguments. None has a `requires`.
 use semantics::Term;
 use semantics::numbers;
 use terms::Made;
 use words::Word;
-ghost use Rattle.semantics.specs.Factory.{makePlainOf, makeTruthOf, makeWordOf, makeFreeOf, makeOperatorOf, makeProcedureOf, makeBindingOf, notOf, andOf, orOf, impliesOf, choiceOf, truthOf, isWordOf, isProcedureOf, constantOf, operatorTermOf};
+ghost use mathlib.Core.Path.{_≡_};
+ghost use Rattle.semantics.specs.Factory.{makePlainOf, makeTruthOf, makeWordOf, makeFreeOf, makeOperatorOf, makeProcedureOf, makeBindingOf, isNotOf, notOf, andOf, orOf, impliesOf, choiceOf, truthOf, isWordOf, isProcedureOf, constantOf, isZeroOf, zeroAbsorbsOf, zeroFoldOf, operatorTermOf};
 ghost use Rattle.terms.specs.Gives.{Makes};
 
 // A truth constant: 0 false, 1 true.
@@ -76,7 +77,18 @@ fn make_operator(table: &mut [u8], count: u16, op: u8, x: u16, y: u16) -> Made
     )
 }
 
-// Not of a constant is folded.
+// Whether a term is itself a not.
+fn is_not(t: Term) -> bool
+    ensures { λ r. ⌜ r ≡ isNotOf t ⌝ }
+{
+    if t.kind == numbers::OPERATOR_TERM {
+        t.op == numbers::NEGATION_CODE
+    } else {
+        false
+    }
+}
+
+// Not of a constant is the other one, not of a not its operand.
 pub fn not_of(table: &mut [u8], count: u16, x: u16) -> Made
     ensures { λ r. ⌜ Makes (notOf x) (now (table .entry)) count r (now (table .exit)) ⌝ }
 {
@@ -86,6 +98,10 @@ pub fn not_of(table: &mut [u8], count: u16, x: u16) -> Made
     }
     if first == numbers::KNOWN_TRUE {
         return terms::present(table, count, numbers::FALSE_NUMBER);
+    }
+    let operand = terms::term(table, count, x);
+    if is_not(operand) {
+        return terms::present(table, count, operand.a);
     }
     make_operator(table, count, numbers::NEGATION_CODE, x, 0)
 }
@@ -149,18 +165,21 @@ pub fn implies(table: &mut [u8], count: u16, x: u16, y: u16) -> Made
     or_of(table, negated.count, negated.number, y)
 }
 
-// x if g, else y; with a constant guard the chosen side.
-pub fn choice(table: &mut [u8], count: u16, g: u16, x: u16, y: u16) -> Made
-    ensures { λ r. ⌜ Makes (choiceOf g x y) (now (table .entry)) count r (now (table .exit)) ⌝ }
+// `yes` if g, else `no`; with a constant guard the chosen side, with equal sides that side.
+pub fn choice(table: &mut [u8], count: u16, g: u16, yes: u16, no: u16) -> Made
+    ensures { λ r. ⌜ Makes (choiceOf g yes no) (now (table .entry)) count r (now (table .exit)) ⌝ }
 {
     let guard = terms::known(table, count, g);
     if guard == numbers::KNOWN_TRUE {
-        return terms::present(table, count, x);
+        return terms::present(table, count, yes);
     }
     if guard == numbers::KNOWN_FALSE {
-        return terms::present(table, count, y);
+        return terms::present(table, count, no);
     }
-    make_plain(table, count, numbers::CHOICE_TERM, g, x, y)
+    if yes == no {
+        return terms::present(table, count, yes);
+    }
+    make_plain(table, count, numbers::CHOICE_TERM, g, yes, no)
 }
 
 // The truth of a value: only false fails a test.
@@ -215,6 +234,46 @@ fn constant(table: &mut [u8], count: u16, op: u8, w: Word) -> Made
     make_word(table, count, w)
 }
 
+// Whether a term is the word constant 0.
+fn is_zero(t: Term) -> bool
+    ensures { λ r. ⌜ r ≡ isZeroOf t ⌝ }
+{
+    if t.kind == numbers::WORD_TERM {
+        terms::word(t) == 0
+    } else {
+        false
+    }
+}
+
+// Whether an operator gives 0 on 0 and any word.
+fn zero_absorbs(op: u8) -> bool
+    ensures { λ r. ⌜ r ≡ zeroAbsorbsOf op ⌝ }
+{
+    if op == numbers::MULTIPLY_CODE {
+        true
+    } else {
+        op == numbers::BITWISE_AND_CODE
+    }
+}
+
+// The term of an operator that is not worked out: word 0 where 0 is an operand and absorbs the other.
+fn zero_fold(table: &mut [u8], count: u16, op: u8, x: u16, y: u16) -> Made
+    ensures { λ r. ⌜ Makes (zeroFoldOf op x y) (now (table .entry)) count r (now (table .exit)) ⌝ }
+{
+    if zero_absorbs(op) {
+        let first = terms::term(table, count, x);
+        if is_zero(first) {
+            return make_word(table, count, 0);
+        }
+        let second = terms::term(table, count, y);
+        if is_zero(second) {
+            return make_word(table, count, 0);
+        }
+        return make_operator(table, count, op, x, y);
+    }
+    make_operator(table, count, op, x, y)
+}
+
 // The term of an operator 1 to 12, worked out on word constants.
 pub fn operator(table: &mut [u8], count: u16, op: u8, x: u16, y: u16) -> Made
     ensures { λ r. ⌜ Makes (operatorTermOf op x y) (now (table .entry)) count r (now (table .exit)) ⌝ }
@@ -238,7 +297,7 @@ pub fn operator(table: &mut [u8], count: u16, op: u8, x: u16, y: u16) -> Made
                 operators::operate(op, terms::word(first), terms::word(second)),
             );
         }
-        return make_operator(table, count, op, x, y);
+        return zero_fold(table, count, op, x, y);
     }
-    make_operator(table, count, op, x, y)
+    zero_fold(table, count, op, x, y)
 }

@@ -53,7 +53,7 @@ unfolding Steps._>>=_ Steps.give Steps.refuse Steps._▹_ Steps.each Steps.reads
 steps = 0
 
 unfoldable factory : ℕ
-unfolding Factory.notOf Factory.andOf Factory.orOf Factory.impliesOf Factory.choiceOf Factory.truthOf Factory.isWordOf Factory.isProcedureOf Factory.constantOf Factory.operatorTermOf
+unfolding Factory.isNotOf Factory.notOf Factory.andOf Factory.orOf Factory.impliesOf Factory.choiceOf Factory.truthOf Factory.isWordOf Factory.isProcedureOf Factory.constantOf Factory.isZeroOf Factory.zeroAbsorbsOf Factory.zeroFoldOf Factory.operatorTermOf
 factory = 0
 
 unfoldable opening : ℕ

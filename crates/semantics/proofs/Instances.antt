@@ -1,4 +1,4 @@
--- Demand 3 on small lists of rules and demand 2 on small plain runs, by computation, and two facts about terms that no reading shows. Crate
+-- Demand 3 on small lists of rules and demand 2 on small plain runs, by computation, and facts about terms that no reading shows. Crate
 -- `demands` proves both of every list and every run, but above this crate: here a definition that no longer gives it is refused beside the definitions. Assumes nothing.
 use Prim.Native.Nat.{ℕ, _*_}
 use mathlib.Core.Path.{_≡_, refl}
@@ -11,7 +11,7 @@ use Rattle.semantics.specs.declared.State.{State}
 use Rattle.semantics.specs.declared.Reading.{Reading as Read}
 use Rattle.semantics.specs.declared.Outcome.{Outcome}
 use Rattle.semantics.specs.declared.Outcome.the-variants.{Truth, Word, Error, Refused}
-use Rattle.semantics.specs.Numbers.{datumRecord, variableRecord, procedureRecord, callRecord, letRecord, ifRecord, abortRecord, errorRecord, falseDatum, wordDatum, procedureTerm, constantTruth, freeTruth, storeFull}
+use Rattle.semantics.specs.Numbers.{datumRecord, variableRecord, procedureRecord, callRecord, operatorRecord, letRecord, ifRecord, abortRecord, errorRecord, falseDatum, wordDatum, multiplyCode, bitwiseAndCode, notCode, negationCode, truthTerm, freeTruthTerm, operatorTerm, procedureTerm, constantTruth, freeTruth, storeFull}
 use Rattle.semantics.proofs.Computing.{computing}
 use Rattle.semantics.specs.Terms as Terms
 use Rattle.semantics.specs.Opening as Opening
@@ -60,6 +60,42 @@ abbrev callOfEither : List ℕ
 callOfEither =
     bytes letRecord 0 1 2 0 (bytes ifRecord 0 0 3 4 (bytes callRecord 0 0 0 0 (
     bytes procedureRecord 0 5 0 0 (bytes datumRecord falseDatum 0 0 0 (bytes datumRecord wordDatum 7 0 0 [])))))
+
+-- ---- the rules that are folded
+
+-- let x be: if place 0, 5, else 6. Let y be 0. An operator on places p and q, of which 1 is x and 0 is y.
+abbrev withZero : ℕ → ℕ → ℕ → List ℕ
+withZero op p q =
+    bytes letRecord 0 1 2 0 (bytes ifRecord 0 0 3 4 (bytes letRecord 0 5 6 0 (
+    bytes datumRecord wordDatum 5 0 0 (bytes datumRecord wordDatum 6 0 0 (bytes datumRecord wordDatum 0 0 0 (bytes operatorRecord op p q 0 []))))))
+
+abbrev toZero : ℕ → List ℕ
+toZero op = withZero op 1 0
+
+abbrev ofZero : ℕ → List ℕ
+ofZero op = withZero op 0 1
+
+-- let x be 0. Place 0, which is a truth, times x.
+abbrev truthTimesZero : List ℕ
+truthTimesZero = bytes letRecord 0 1 2 0 (bytes datumRecord wordDatum 0 0 0 (bytes operatorRecord multiplyCode 1 0 0 []))
+
+-- let x be not of place 0. Not of x.
+abbrev notTwice : List ℕ
+notTwice = bytes letRecord 0 1 2 0 (bytes operatorRecord notCode 0 0 0 (bytes operatorRecord notCode 0 0 0 []))
+
+-- if place 0, 5, else 5
+abbrev fiveOrFive : List ℕ
+fiveOrFive = bytes ifRecord 0 0 1 2 (bytes datumRecord wordDatum 5 0 0 (bytes datumRecord wordDatum 5 0 0 []))
+
+-- if place 0, place 0, else 5
+abbrev guardOrFive : List ℕ
+guardOrFive = bytes ifRecord 0 0 1 2 (bytes variableRecord 0 0 0 0 (bytes datumRecord wordDatum 5 0 0 []))
+
+-- false, true, the free truth, its not, and the not of that
+abbrev notsOfNots : List Term
+notsOfNots =
+    Terms.term operatorTerm negationCode 3 0 0 ∷ Terms.term operatorTerm negationCode 2 0 0 ∷
+    Terms.term freeTruthTerm 0 0 0 0 ∷ Terms.term truthTerm 0 1 0 0 ∷ Terms.term truthTerm 0 0 0 0 ∷ []
 
 -- ---- demand 3 of what a list of calls left, where input 0 is given n
 
@@ -118,6 +154,21 @@ pub record Instances : Type 0 where
   pub let-has-a-place : ranPlainly letFalse 17 0 ≡ Truth false
   -- "If: r on false, else q."
   pub branch-of-the-test : ranPlainly sevenOrError 16 1 ≡ Word 7
+  -- document 02, One: "word 0 for multiply or bitwise and when either operand is the word constant 0"; a sum with 0 is not 0
+  pub sum-to-zero : sides 1 (desk (toZero 1 ∷ [])) ≡ both (Word 5)
+  pub product-to-zero : valueTerm (desk (toZero multiplyCode ∷ [])) ≡ Terms.wordTermOf 0
+  pub product-of-zero : valueTerm (desk (ofZero multiplyCode ∷ [])) ≡ Terms.wordTermOf 0
+  pub and-to-zero : valueTerm (desk (toZero bitwiseAndCode ∷ [])) ≡ Terms.wordTermOf 0
+  pub and-of-zero : valueTerm (desk (ofZero bitwiseAndCode ∷ [])) ≡ Terms.wordTermOf 0
+  -- "Type assertions are still made."
+  pub truth-times-zero : sides 1 (desk (truthTimesZero ∷ [])) ≡ both Error
+  -- "the shared side for a choice with equal sides": no reading tells it from the choice; a guard that is a side is another matter
+  pub guard-as-side : sides 0 (desk (guardOrFive ∷ [])) ≡ both (Word 5)
+  pub equal-sides : valueTerm (desk (fiveOrFive ∷ [])) ≡ Terms.wordTermOf 5
+  -- "the operand for not of a not"
+  pub not-twice : valueTerm (desk (notTwice ∷ [])) ≡ Terms.term freeTruthTerm 0 0 0 0
+  -- 3 is about layout: a table with a not of a not fits
+  pub not-twice-laid-out : Terms.wellFormed 0 notsOfNots ≡ true
   -- only what document 01 refuses is refused: eleven rules in turn are accepted
   pub eleven-accepted : desk (replicate 11 (bytes datumRecord falseDatum 0 0 0 [])) .session .accepted ≡ 11
 
@@ -133,5 +184,15 @@ instances =
       let-needs-a-place = refl;
       let-has-a-place = refl;
       branch-of-the-test = refl;
+      sum-to-zero = refl;
+      product-to-zero = refl;
+      product-of-zero = refl;
+      and-to-zero = refl;
+      and-of-zero = refl;
+      truth-times-zero = refl;
+      guard-as-side = refl;
+      equal-sides = refl;
+      not-twice = refl;
+      not-twice-laid-out = refl;
       eleven-accepted = refl;
     }

@@ -39,7 +39,16 @@ trueDatum = 1
 abbrev pub wordDatum : ℕ
 wordDatum = 2
 
--- ---- "Operators": the codes that need no words
+-- ---- "Operators": the codes that 0 absorbs
+-- 3 multiply
+abbrev pub multiplyCode : ℕ
+multiplyCode = 3
+
+-- 4 and
+abbrev pub bitwiseAndCode : ℕ
+bitwiseAndCode = 4
+
+-- ---- the codes that need no words
 -- true only for false
 abbrev pub notCode : ℕ
 notCode = 13

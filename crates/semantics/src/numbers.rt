@@ -26,7 +26,12 @@ pub const TRUE_DATUM: u8 = 1;
 
 pub const WORD_DATUM: u8 = 2;
 
-// "Operators": the codes that need no words.
+// "Operators": the codes that 0 absorbs.
+pub const MULTIPLY_CODE: u8 = 3;
+
+pub const BITWISE_AND_CODE: u8 = 4;
+
+// The codes that need no words.
 // True only for false.
 pub const NOT_CODE: u8 = 13;
 

@@ -3,6 +3,8 @@ use mathlib.Core.Path.{_≡_, refl, sym, ap, _∙_}
 use mathlib.Core.Bool.{Bool, true, false, not, _&&_, _||_, and-true, and-false, or-true, or-false}
 use mathlib.Core.List.{List}
 use Prim.Native.Nat.{ℕ, _<_}
+use lib.Dec.{eqb}
+use borrow.Author.Tests.{eqb-true}
 use Rattle.words.proofs.Words.{join-halves}
 use Rattle.notation.specs.Notation.{pick, if_equals_then_else_, if_below_then_else_}
 use Rattle.operators.specs.Operators.{givesTruthOf}
@@ -10,22 +12,23 @@ use Rattle.semantics.specs.declared.Term.{Term}
 use Rattle.semantics.specs.Numbers.{truthTerm, wordTerm, operatorTerm, choiceTerm, procedureTerm, bindingTerm, isWordCode, isProcedureCode, negationCode, conjunctionCode, disjunctionCode, truthCode, recordLimit, tableFull}
 use Rattle.semantics.specs.Terms.{term, wordTermOf, at, sortOf}
 use Rattle.semantics.specs.Steps.{makeOf}
-use Rattle.semantics.specs.Factory.{notOf, andOf, orOf, impliesOf, choiceOf, truthOf, isWordOf, isProcedureOf}
+use Rattle.semantics.specs.Factory.{isNotOf, notOf, andOf, orOf, impliesOf, choiceOf, truthOf, isWordOf, isProcedureOf}
 use Rattle.semantics.specs.Run.{Value, truth, word, procedure, binding, isFalse, isAWord, isAProcedure}
-use Rattle.typing.proofs.Grown.{Sort, Value as Named, value-of, sort-at}
-use Rattle.typing.proofs.Formed.{never}
-use Rattle.typing.proofs.Does.{Lies, Fit, does-give, does-then, does-weaken, does-read, does-eq}
+use Rattle.typing.proofs.Grown.{Sort, Value as Named, value-of, sort-at, sort-grown}
+use Rattle.typing.proofs.Formed.{never, by-test, not-names, laid-at}
+use Rattle.typing.proofs.Does.{Lies, Fit, does-give, does-then, does-weaken, does-read, does-with, does-if, does-eq}
 use Rattle.typing.proofs.Factory.{there-sort, laid-not, laid-and, laid-or, laid-truth, laid-is-word, laid-is-procedure, laid-choice, laid-word, laid-binding, laid-procedure, formula, word-sort, choice-sort, procedure-sort, binding-sort, gives-not, gives-and, gives-or, gives-truth, gives-is-word, gives-is-procedure}
 use Rattle.soundness.proofs.Means.{isTrue, isProper, operatorMeaning, termMeaning, meaningFrom, meaning}
 use Rattle.soundness.proofs.Constants.{isConstant, Const, const-at, Step, Does, does-make-constant}
-use Rattle.soundness.proofs.BySort.{Kind, constant-truth, constant-word, free-truth, free-word, truth-operator, word-operator, a-choice, a-procedure, a-binding, no-kind, kind-of, means-word, means-choice, means-procedure, means-binding, there-means, truth-means, word-means, procedure-means, choice-kind}
-use Rattle.soundness.proofs.Held.{MeansTruth, MeansValue, MeansBindings, truth-step, value-step, bindings-step, is-proper, false-means, true-means, known-is-false, known-is-true, unknown, named-some, named-other}
+use Rattle.soundness.proofs.BySort.{Kind, constant-truth, constant-word, free-truth, free-word, truth-operator, word-operator, a-choice, a-procedure, a-binding, no-kind, kind-of, means-word, means-operator, means-choice, means-at, means-procedure, means-binding, there-means, truth-means, word-means, procedure-means, choice-kind}
+use Rattle.soundness.proofs.Held.{MeansTruth, MeansValue, MeansBindings, truth-step, value-step, bindings-step, is-proper, false-means, true-means, some-truth, known-is-false, known-is-true, unknown, named-some, named-other}
 
 -- the meanings of terms that are made
 module _ (ns : List ℕ) (f : ℕ → Value) where
-  mean-not : (x : ℕ) {b : Bool} → f x ≡ truth b → meaningFrom ns f (term operatorTerm negationCode x 0 0) ≡ truth (not b)
-  unfolding termMeaning operatorMeaning if_equals_then_else_ if_below_then_else_
-  mean-not x h = rw h
+  -- of any term that is a not
+  mean-not : (t : Term) {b : Bool} → t .kind ≡ operatorTerm → t .op ≡ negationCode → f (t .a) ≡ truth b → meaningFrom ns f t ≡ truth (not b)
+  unfolding operatorMeaning if_equals_then_else_ if_below_then_else_
+  mean-not t k o h = means-operator ns f t k ∙ rw (o, h)
 
   mean-and : (x y : ℕ) {b c : Bool} → f x ≡ truth b → f y ≡ truth c → meaningFrom ns f (term operatorTerm conjunctionCode x y 0) ≡ truth (b && c)
   unfolding termMeaning operatorMeaning if_equals_then_else_ if_below_then_else_
@@ -86,6 +89,30 @@ or-self false = refl
 -- one number means one truth
 same-truth : {ns : List ℕ} {ts : List Term} {x y : ℕ} {b c : Bool} → MeansTruth ns b ts x → MeansTruth ns c ts y → x ≡ y → c ≡ b
 same-truth {ns} {ts} h k e = ap isTrue (sym (k .is) ∙ (ap (meaning ns ts) (sym e) ∙ h .is))
+
+-- one number means one value, whichever way a choice goes
+same-value : {ns : List ℕ} {ts : List Term} {x y : ℕ} {v w : Value} (b : Bool) → MeansValue ns v ts x → MeansValue ns w ts y → x ≡ y → MeansValue ns (pick b v w) ts x
+same-value {ns} {ts} true h k e = h
+same-value {ns} {ts} false h k e = record { named = h .named; is = ap (meaning ns ts) e ∙ k .is }
+
+-- ---- a not
+is-a-not : {P : Type 0} (t : Term) → isNotOf t ≡ true → (t .kind ≡ operatorTerm → t .op ≡ negationCode → P) → P
+unfolding isNotOf if_equals_then_else_
+is-a-not t h f = by-test (eqb (t .kind) operatorTerm) (eqb (t .op) negationCode) false h (λ i j. f (eqb-true _ _ i) (eqb-true _ _ j)) (λ i j. never j)
+
+not-not : (b : Bool) → not (not b) ≡ b
+not-not true = refl
+not-not false = refl
+
+-- the operand of a not means the other truth
+not-operand : {ns : List ℕ} {n : ℕ} {ts : List Term} {x : ℕ} {b : Bool} → Fit n ts → MeansTruth ns b ts x → isNotOf (at ts x) ≡ true → MeansTruth ns (not b) ts (at ts x .a)
+not-operand {ns} {n} {ts} {x} {b} f h e =
+    is-a-not (at ts x) e λ k o.
+    let y = laid-at n ts x (f .formed) (h .sort .low) in
+    let m = some-truth f (sort-grown (y .grown) (not-names n (y .under) (at ts x) (y .laid) k o)) in
+    let i : meaning ns ts x ≡ truth (not (isTrue (meaning ns ts (at ts x .a)))) = means-at ns f x (h .sort .low) ∙ mean-not ns (meaning ns ts) (at ts x) k o (m .is) in
+    let j : b ≡ not (isTrue (meaning ns ts (at ts x .a))) = ap isTrue (sym (h .is) ∙ i) in
+    record { sort = m .sort; is = m .is ∙ ap truth (sym (ap not j ∙ not-not (isTrue (meaning ns ts (at ts x .a))))) }
 
 -- a value by its sort
 module _ {P : Type 0} {ts : List Term} {x : ℕ} (h : Named ts x) where
@@ -156,7 +183,8 @@ module _ {l n : ℕ} {N : ℕ → Type 0} (full : N tableFull) {ns : List ℕ} w
   unfolding notOf
   not-does {x = x} f h =
       does-read _ _ (does-eq _ _ (λ e. does-give _ f (rw (known-is-false f h e) (true-means f))) λ d. does-eq _ _ (λ e. does-give _ f (rw (known-is-true f h e) (false-means f))) λ e.
-      formula-does gives-not f (laid-not (h .sort)) (unknown f h d e) (λ us g. mean-not ns (meaning ns us) x (truth-step g h .is)))
+      does-read _ _ (does-with _ _ (does-if _ (λ i. does-give _ f (not-operand f h i)) λ i.
+      formula-does gives-not f (laid-not (h .sort)) (unknown f h d e) (λ us g. mean-not ns (meaning ns us) (term operatorTerm negationCode x 0 0) refl refl (truth-step g h .is)))))
 
   pub and-does : {ts : List Term} {x y : ℕ} {b c : Bool} → Fit n ts → MeansTruth ns b ts x → MeansTruth ns c ts y → Does l n (andOf x y) ts (MeansTruth ns (b && c)) N
   unfolding andOf
@@ -181,8 +209,9 @@ module _ {l n : ℕ} {N : ℕ → Type 0} (full : N tableFull) {ns : List ℕ} w
   pub choice-does : {ts : List Term} {g x y : ℕ} {b : Bool} {v w : Value} → Fit n ts → MeansTruth ns b ts g → MeansValue ns v ts x → MeansValue ns w ts y
       → Does l n (choiceOf g x y) ts (MeansValue ns (pick b v w)) N
   unfolding choiceOf
-  choice-does {g = g} {x} {y} f h k i =
+  choice-does {g = g} {x} {y} {b} f h k i =
       does-read _ _ (does-eq _ _ (λ e. does-give _ f (rw (known-is-true f h e) k)) λ d. does-eq _ _ (λ e. does-give _ f (rw (known-is-false f h e) i)) λ e.
+      does-eq _ _ (λ s. does-give _ f (same-value b k i s)) λ s.
       does-weaken f (λ us a s j. record {
         named = value-of choiceTerm refl refl (there-sort choiceTerm (choice-sort g x y) j);
         is = there-means ns (s .fit) j ∙ mean-choice ns (meaning ns us) g x y (truth-step s h .is) (value-step s k .is) (value-step s i .is);

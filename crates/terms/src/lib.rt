@@ -7,7 +7,7 @@ use semantics::Term;
 use semantics::numbers;
 use words::Word;
 ghost use mathlib.Core.Path.{_≡_};
-ghost use Prim.Native.Nat.{_/_, max, min};
+ghost use Prim.Native.Nat.{_-_, _/_, max, min};
 ghost use lib.ListN.{length};
 ghost use Rattle.semantics.specs.Terms.{wordTermOf, termWord, truthNumber, termsIn, at as «term-number», sameOf, sortOf, knownOf};
 ghost use Rattle.semantics.specs.Terms.{namesTruth, namesValue};
@@ -174,22 +174,35 @@ fn whole_records(table: &[u8], count: u16) -> usize
     if n < wide(count) { n } else { wide(count) }
 }
 
+// One less; 0 of 0.
+fn one_less(n: usize) -> usize
+    ensures { λ r. ⌜ r ≡ n - 1 ⌝ }
+{
+    if n == 0 { 0 } else { n - 1 }
+}
+
 // The oldest term equal to t above its largest operand. It is searched for upward, since it often stands right after
-// that operand. In a record that lies whole in the table one byte of `a` tells most others apart.
+// that operand. In a record that lies whole in the table one byte of `a` tells most others apart: two at a turn are
+// passed by it, so that the turn's own work counts less.
 pub fn find(table: &[u8], count: u16, t: Term) -> Found
     ensures { λ r. ⌜ r ≡ findFrom (floorOf t) (termsIn (now (table .entry)) count) t ⌝ }
 {
-    let whole = whole_records(table, count);
+    let last = one_less(whole_records(table, count));
     let low = (t.a % 256) as u8;
     let mut i = floor(t);
-    while i < whole {
-        if table[8 * i + 2] == low {
-            let at = i as u16;
-            if same(records::term_at(table, at), t) {
-                return Found { is: true, at: at };
+    while i < last {
+        let next = i + 1;
+        if table[8 * i + 2] != low {
+            if table[8 * next + 2] != low {
+                i = next + 1;
+                continue;
             }
         }
-        i += 1;
+        let at = i as u16;
+        if same(records::term_at(table, at), t) {
+            return Found { is: true, at: at };
+        }
+        i = next;
     }
     while i < wide(count) {
         let at = i as u16;

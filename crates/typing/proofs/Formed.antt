@@ -107,6 +107,13 @@ module _ (ts : List Term) (a b : ℕ) where
 
 -- ---- a term names only lower terms
 module _ (n : ℕ) (ts : List Term) (t : Term) (h : laidOut n ts t ≡ true) where
+  -- the operand of a not is a truth
+  pub not-names : t .kind ≡ operatorTerm → t .op ≡ negationCode → Sort truthTerm ts (t .a)
+  unfolding laidOut operandsLaidOut if_equals_then_else_ if_below_then_else_
+  not-names k o =
+      both (operandsLaidOut ts (t .op) (t .a) (t .b)) (eqb (t .c) 0) (rw k at h) λ p q.
+      both (namesTruth ts (t .a)) (eqb (t .b) 0) (rw o at p) λ u v. truth-at ts (t .a) u
+
   operator-lower : t .kind ≡ operatorTerm → Lower ts (t .a) (t .b)
   unfolding laidOut if_equals_then_else_
   operator-lower k =

@@ -1,11 +1,12 @@
 -- Laws of words: a word in its fields; for every width k, what the operators give is a word, and how they wrap. Assumes nothing.
 use mathlib.Core.Path.{_≡_, ap, subst⁻¹, _∙_}
 use Prim.Native.Nat.{ℕ, zero, _+_, _-_, _*_, _%_, _^_, _<_, _≤_}
-use native.Mathlib.Nat.{add-comm, mul-comm, le-of-lt, lt-of-le-of-lt, mul-le-mul-left, mul-lt-mul-of-pos-right, mod-lt, mod-self, mod-eq-of-lt, mod-add-mod, add-mod-right}
+use native.Mathlib.Nat.{add-comm, mul-comm, le-of-lt, lt-of-le-of-lt, mul-le-mul-left, mul-lt-mul-of-pos-right, mod-lt, mod-self, zero-mod, mod-eq-of-lt, mod-add-mod, add-mod-right}
 use native.Mathlib.Omega.{arith}
+use lib.Bits.{and-zero-l, and-zero-r}
 use lib.Count.{leading-of-zero}
 use lib.Pow.{pow-pos, pow-add, shr-le}
-use Rattle.words.specs.Words.{wordLimit, wordFields, lowOf, highOf, joinOf, sumOf, differenceOf, productOf, leftOf, rightOf, zerosOf}
+use Rattle.words.specs.Words.{wordLimit, wordFields, lowOf, highOf, joinOf, sumOf, differenceOf, productOf, andOf, leftOf, rightOf, zerosOf}
 
 -- A word comes back from its fields.
 pub join-halves : (w : ℕ) → joinOf (lowOf w) (highOf w) ≡ w
@@ -21,6 +22,13 @@ one-field l h k p = omega arith
 pub join-word : {l h : ℕ} → l < 2 ^ 16 → h < 2 ^ 16 → joinOf l h < wordLimit
 unfolding joinOf
 join-word a b = omega arith
+
+-- 0 and any word, and any word and 0, bit by bit.
+pub zero-and : (b : ℕ) → andOf 0 b ≡ 0
+zero-and = and-zero-l
+
+pub and-zero : (a : ℕ) → andOf a 0 ≡ 0
+and-zero = and-zero-r
 
 module _ (k : ℕ) where
   -- what is taken modulo 2 ^ k is a word
@@ -41,6 +49,13 @@ module _ (k : ℕ) where
 
   pub product-comm : (a b : ℕ) → productOf k a b ≡ productOf k b a
   product-comm a b = ap (λ (n : ℕ). n % 2 ^ k) (mul-comm a b)
+
+  -- 0 times any word, and any word times 0.
+  pub zero-product : (b : ℕ) → productOf k 0 b ≡ 0
+  zero-product b = let e : 0 * b ≡ 0 = omega arith in ap (λ (n : ℕ). n % 2 ^ k) e ∙ zero-mod (2 ^ k)
+
+  pub product-zero : (a : ℕ) → productOf k a 0 ≡ 0
+  product-zero a = product-comm a 0 ∙ zero-product a
 
   -- Adding undoes subtracting.
   pub difference-sum : (a b : ℕ) → a < 2 ^ k → b < 2 ^ k → sumOf k (differenceOf k a b) b ≡ a

@@ -1,6 +1,6 @@
 use crate::records::Record;
 use crate::words::{halves, joined, on_words, shape, Value, Word};
-use crate::words::{AND, IS_PROCEDURE, IS_WORD, NOT, OR, TRUTH};
+use crate::words::{AND, BITWISE_AND, IS_PROCEDURE, IS_WORD, MULTIPLY, NOT, OR, TRUTH};
 use std::collections::hash_map::{Entry, HashMap};
 use std::hash::{BuildHasherDefault, Hasher};
 
@@ -249,20 +249,24 @@ impl Factory {
         FALSE
     }
 
-    /// An operator 1 to 12, worked out on word constants.
+    /// An operator 1 to 12, worked out on word constants; word 0 for multiply or bitwise and with the word constant 0.
     pub fn operator(&mut self, op: u8, a: u16, b: u16) -> Result<u16, u8> {
         let (x, y) = (self.term(a).word(), self.term(b).word());
         match on_words::<u16>(op, x, y) {
             Some(Value::Word(word)) => self.make(Term::Word(word)),
             Some(Value::Truth(truth)) => Ok(constant(truth)),
+            _ if matches!(op, MULTIPLY | BITWISE_AND) && (x == Some(0) || y == Some(0)) => {
+                self.make(Term::Word(0))
+            }
             _ => self.make(Term::Operator { op, a, b }),
         }
     }
 
+    /// Not of a constant is the other one, not of a not its operand.
     pub fn not(&mut self, a: u16) -> Result<u16, u8> {
-        match a {
-            FALSE => Ok(TRUE),
-            TRUE => Ok(FALSE),
+        match self.term(a) {
+            Term::Truth(truth) => Ok(constant(!truth)),
+            Term::Operator { op: NOT, a, .. } => Ok(a),
             _ => self.make(Term::Operator { op: NOT, a, b: 0 }),
         }
     }
@@ -293,10 +297,12 @@ impl Factory {
         self.or(not, b)
     }
 
+    /// With a constant guard the chosen side, with equal sides that side.
     pub fn choice(&mut self, guard: u16, then: u16, other: u16) -> Result<u16, u8> {
         match guard {
             TRUE => Ok(then),
             FALSE => Ok(other),
+            _ if then == other => Ok(then),
             _ => self.make(Term::Choice { guard, then, other }),
         }
     }

@@ -1,7 +1,7 @@
 //! Compares the desk's exports and the printing program with the second evaluator, byte for byte, and the lines of the
 //! library's examples with those wanted. `faults` tries whether faults in the second evaluator are noticed by the trials at
-//! the limits; `limits` with the name of a group makes those of the group alone. `figures` takes times, and tries an
-//! evaluation in 1 MiB of stack; `bench`, `small`, `speed` and `stack` with a number of KiB are its parts.
+//! the limits; `limits` with the name of a group makes those of the group alone. `figures` takes times, counts terms and
+//! tries an evaluation in 1 MiB of stack; `bench`, `small`, `speed`, `terms` and `stack` with a number of KiB are its parts.
 
 mod bench;
 mod choices;
@@ -36,11 +36,13 @@ fn main() {
             bench::run();
             small::run();
             speed::run();
+            speed::terms();
             return stack::run(1_024);
         }
         ["bench"] => return bench::run(),
         ["small"] => return small::run(),
         ["speed"] => return speed::run(),
+        ["terms"] => return speed::terms(),
         ["stack", kibibytes] => return stack::run(kibibytes.parse().expect("a number")),
         ["faults"] => return faults::run(),
         ["limits", group] => return tell(&limits::group(group).expect("a group of limits")),

@@ -1,25 +1,27 @@
-//! The times of opening, evaluating and reading beside the second evaluator's, and the comparisons that the search for
-//! an equal term takes; each as rows of a table.
+//! The times of opening, evaluating and reading beside the second evaluator's, the terms that the rules make, and the
+//! comparisons that the search for an equal term takes; each as rows of a table.
 
 use crate::compare::result_of;
 use crate::desk;
 use crate::rules::guarded_update;
+use crate::tree::{bind, operator, place, test, word, Tree};
 use second::dice::{record, rule, Dice};
-use second::{evaluate, open, read, records, Answer, Input, Record, ResultOf, Session};
+use second::{evaluate, open, read, records, Answer, Input, Record, ResultOf, Session, Word};
 use std::hint::black_box;
 
 pub const TABLE: usize = 65_536;
 const ALLOWANCE: u16 = 256;
-/// The counts of terms up to which chains of guarded updates are timed.
-const TERMS: [u16; 4] = [165, 700, 1_400, 2_800];
+/// How many guarded updates the chains have that are timed.
+const NESTED: [u16; 4] = [7, 30, 62, 126];
+const IN_TURN: [u16; 4] = [12, 53, 107, 214];
 
 pub fn run() {
     println!("| what | desk, ms | second evaluator, ms | ratio |");
     println!("|---|---|---|---|");
-    random_rules();
-    let nested: Vec<Chain> = TERMS.into_iter().map(nested).collect();
-    let in_turn: Vec<Chain> = TERMS.into_iter().map(in_turn).collect();
+    random_rules().iter().for_each(Randoms::evaluations);
+    let (nested, in_turn) = (NESTED.map(nested), IN_TURN.map(in_turn));
     nested.iter().chain(&in_turn).for_each(Chain::evaluations);
+    switched().evaluations();
     openings();
     in_turn.iter().for_each(Chain::readings);
     println!("\n| chain | comparisons | of word constants | of a search through all terms |");
@@ -106,8 +108,66 @@ impl Start {
     }
 }
 
-/// Rules of about 50 records, each in a session of its own.
-fn random_rules() {
+/// The terms that these rules make. It asks the desk alone, so that two desks can be compared.
+pub fn terms() {
+    println!("| rules | terms made |");
+    println!("|---|---|");
+    for randoms in random_rules() {
+        let Randoms { what, rules, .. } = &randoms;
+        println!("| {what}, {} of them | {} |", rules.len(), randoms.made());
+    }
+    let updates = NESTED.map(nested).into_iter().chain(IN_TURN.map(in_turn));
+    for chain in updates.chain([switched()]) {
+        println!("| {} | {} |", chain.name, made(&chain.start, &chain.rules));
+    }
+}
+
+/// The terms that the desk makes of rules in turn.
+fn made(start: &Start, rules: &[Vec<u8>]) -> usize {
+    let mut end = start.clone();
+    for bytes in rules {
+        end.desk(bytes);
+    }
+    let count = |start: &Start| records(&start.table).filter(|term| term.kind != 0).count();
+    count(&end) - count(start)
+}
+
+/// Rules, each with a session of its own.
+struct Randoms {
+    what: String,
+    rules: Vec<Vec<u8>>,
+    starts: Vec<Start>,
+}
+
+impl Randoms {
+    fn evaluations(&self) {
+        compare(
+            &format!("evaluate {}", self.what),
+            self.rules.len(),
+            &self.starts,
+            |starts| {
+                for (start, bytes) in starts.iter_mut().zip(&self.rules) {
+                    black_box(start.desk(bytes));
+                }
+            },
+            |starts| {
+                for (start, bytes) in starts.iter_mut().zip(&self.rules) {
+                    black_box(start.second(bytes));
+                }
+            },
+        );
+    }
+
+    fn made(&self) -> usize {
+        let pairs = self.starts.iter().zip(&self.rules);
+        pairs
+            .map(|(start, bytes)| made(start, std::slice::from_ref(bytes)))
+            .sum()
+    }
+}
+
+/// Rules of about 50 records, on small tables and on large ones.
+fn random_rules() -> [Randoms; 2] {
     let mut dice = Dice(0x50ee);
     let mut rules = Vec::new();
     while rules.len() < 200 {
@@ -117,29 +177,14 @@ fn random_rules() {
         }
     }
     let mean = rules.iter().map(Vec::len).sum::<usize>() / 8 / rules.len();
-    for bytes in [4_096, TABLE] {
-        let starts: Vec<Start> = rules
+    [4_096, TABLE].map(|bytes| Randoms {
+        what: format!("a random rule, {mean} records in the mean, table of {bytes} bytes"),
+        rules: rules.clone(),
+        starts: rules
             .iter()
             .map(|_| Start::new(&dice.inputs(), bytes))
-            .collect();
-        let what =
-            format!("evaluate a random rule, {mean} records in the mean, table of {bytes} bytes");
-        compare(
-            &what,
-            rules.len(),
-            &starts,
-            |starts| {
-                for (start, bytes) in starts.iter_mut().zip(&rules) {
-                    black_box(start.desk(bytes));
-                }
-            },
-            |starts| {
-                for (start, bytes) in starts.iter_mut().zip(&rules) {
-                    black_box(start.second(bytes));
-                }
-            },
-        );
-    }
+            .collect(),
+    })
 }
 
 fn openings() {
@@ -159,6 +204,8 @@ fn openings() {
 
 /// Rules that update a word under guards, one after the other, with where they start and what they leave.
 struct Chain {
+    /// The rules, and with the terms at the end.
+    name: String,
     what: String,
     start: Start,
     rules: Vec<Vec<u8>>,
@@ -167,7 +214,7 @@ struct Chain {
 }
 
 impl Chain {
-    fn new(what: &str, inputs: &[Input; 16], rules: Vec<Vec<u8>>) -> Chain {
+    fn new(name: String, inputs: &[Input; 16], rules: Vec<Vec<u8>>) -> Chain {
         let start = Start::new(inputs, TABLE);
         let mut end = start.clone();
         let mut result = None;
@@ -176,7 +223,8 @@ impl Chain {
         }
         end.form = desk::session_bytes(&end.session);
         Chain {
-            what: format!("{what}, {} terms", end.session.count),
+            what: format!("{name}, {} terms", end.session.count),
+            name,
             start,
             rules,
             end,
@@ -271,15 +319,12 @@ fn floor(term: Record) -> usize {
     named.iter().map(|&n| usize::from(n) + 1).max().unwrap_or(0)
 }
 
-/// Guarded updates inside one another in one rule, as many as make so many terms.
-fn nested(terms: u16) -> Chain {
+/// Guarded updates inside one another in one rule.
+fn nested(updates: u16) -> Chain {
     let mut inputs = [Input { kind: 2, value: 0 }; 16];
     inputs[15].kind = 3;
-    let chain = |updates| Chain::new("nested updates", &inputs, vec![nested_updates(updates)]);
-    (1..)
-        .map(chain)
-        .find(|chain| chain.end.session.count >= terms)
-        .expect("a chain")
+    let name = format!("{updates} nested updates");
+    Chain::new(name, &inputs, vec![nested_updates(updates)])
 }
 
 /// k more where the guard holds, under a let for k and one for the sum; the guards are places 0 to 14 in turn.
@@ -302,18 +347,39 @@ fn nested_updates(updates: u16) -> Vec<u8> {
     rule(&list)
 }
 
-/// Guarded updates rule after rule, as many as make so many terms.
-fn in_turn(terms: u16) -> Chain {
+/// Guarded updates rule after rule.
+fn in_turn(updates: u16) -> Chain {
     let mut inputs = [Input { kind: 0, value: 0 }; 16];
     inputs[0].kind = 2;
     inputs[1].kind = 3;
-    let mut start = Start::new(&inputs, TABLE);
-    let mut rules = Vec::new();
-    while start.session.count < terms {
-        let bytes = guarded_update(3 + rules.len() as u16);
-        start.second(&bytes);
-        rules.push(bytes);
+    let rules = (0..updates).map(|n| guarded_update(3 + n)).collect();
+    Chain::new(format!("{updates} updates in turn"), &inputs, rules)
+}
+
+/// Readings multiplied by switches, every other one 0: each product below a limit is added.
+fn switched() -> Chain {
+    let inputs = std::array::from_fn(|i| match i {
+        15 => Input { kind: 0, value: 0 },
+        _ if i % 2 == 1 || i == 14 => Input { kind: 3, value: 0 },
+        _ => Input {
+            kind: 1,
+            value: (i / 2 % 2) as Word,
+        },
+    });
+    let name = format!("{HEADS} switched readings");
+    Chain::new(name, &inputs, vec![switched_reading(0).rule()])
+}
+
+const HEADS: u16 = 7;
+
+/// Head n and those after it, under four bindings for each head before; input 14 is what is added to.
+fn switched_reading(n: u16) -> Tree {
+    if n == HEADS {
+        return place(0);
     }
-    let what = format!("{} updates in turn", rules.len());
-    Chain::new(&what, &inputs, rules)
+    let switch = 4 * n + 2 * n;
+    let sum = if n == 0 { 3 + 14 } else { 3 };
+    let added = test(0, operator(1, sum, 2), place(sum));
+    let tested = bind(operator(11, 1, 0), bind(added, switched_reading(n + 1)));
+    bind(operator(3, switch, switch + 1), bind(word(100), tested))
 }

@@ -12,4 +12,5 @@ choice-spec =
     (λ c κs. search needs)
     (λ c κs. search needs) (λ c. search needs) (λ c. search steps depth 12)
     (λ c κs. search needs) (λ c. search needs) (λ c. search steps depth 12)
+    (λ c κs. search needs) (λ c. search needs) (λ c. search steps depth 12)
     (λ c κs. search needs) (λ c. search needs) (λ c. search steps depth 12))

@@ -62,7 +62,7 @@ fn two_calls(tally: &mut Tally) {
 /// "each made as that side is entered": the guard of the 65th leaf is made before that leaf is met, so that a full table
 /// there is 11. "Then whichever comes first". The 65th leaf is on a right side where it is the last, else on a left one.
 fn guards_before_leaves(tally: &mut Tally) {
-    for (count, in_chain, in_halves) in [(65, 898, 746), (66, 909, 753)] {
+    for (count, in_chain, in_halves) in [(65, 879, 736), (66, 890, 743)] {
         let leaves = procedures(count);
         fills(tally, &called_asserted(halves(&leaves)), in_halves);
         fills(tally, &called_asserted(chain(leaves)), in_chain);

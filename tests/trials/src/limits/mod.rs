@@ -1,10 +1,11 @@
-//! Both sides of every limit in document 01, and every order of two tests or steps that its text fixes. A line over a
-//! trial has the sentence that it tries. `tests/second/faults` has for each group the faults that it must notice.
+//! Both sides of every limit in document 01, and every order of two tests or steps that its text fixes; and what document
+//! 02's requests change. A line over a trial has the sentence that it tries. `tests/second/faults` has for each group the faults that it must notice.
 
 mod acceptances;
 mod depths;
 mod every_kind;
 mod fitting;
+mod folds;
 mod leaves;
 mod making;
 mod openings;
@@ -23,7 +24,7 @@ use crate::tally::Tally;
 
 type Group = (&'static str, fn(&mut Tally));
 
-const GROUPS: [Group; 13] = [
+const GROUPS: [Group; 14] = [
     ("openings", openings::all),
     ("rule_records", rule_records::all),
     ("fitting", fitting::all),
@@ -32,6 +33,7 @@ const GROUPS: [Group; 13] = [
     ("leaves", leaves::all),
     ("depths", depths::all),
     ("making", making::all),
+    ("folds", folds::all),
     ("operators", operators::all),
     ("readings", readings::all),
     ("stores", stores::all),
