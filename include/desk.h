@@ -1,13 +1,13 @@
 /* The desk's library, target/staticlib/libdesk.a, which `rt staticlib desk` proves and writes (x86-64 Linux).
  *
- * A slice is lent as an address and a length: of bytes, and for the work list of places. The caller owes
- * that the address is not null and holds so many, that a work list is aligned for desk_place, and that nothing written
- * (not const) overlaps another slice of the same call. Nothing else is asked of a caller: every length and every byte
- * is taken or refused. A call keeps no address and uses no memory but what is lent and the stack; an evaluation at the
- * largest depth takes up to 0.7 MiB of it.
+ * A slice is lent as an address and a length: of bytes, for the work list of places, and for a list of reports of numbers.
+ * The caller owes that the address is not null and holds so many, that a work list is aligned for desk_place and a list of
+ * reports for uint32_t, and that nothing written (not const) overlaps another slice of the same call. Nothing else is asked
+ * of a caller: every length and every byte is taken or refused. A call keeps no address and uses no memory but what is lent
+ * and the stack; an evaluation at the largest depth takes up to 0.7 MiB of it.
  *
  * Each function answers 0, or the number of the refusal that came first. What is lent to a refused call is left as it
- * was, except that work list and store are zero on every return. Document 01 has the numbers:
+ * was, except that work list and store are zero on every return. Documents 01 and 02 have the numbers:
  *
  *    1 table bytes not a multiple of 8, below 272 or above 65,536
  *    2 an input's kind or value; inputs that are not of their form, or of another length than 64
@@ -23,16 +23,17 @@
  *   12 the depth is spent
  *   13 a free truth given a number over 1
  *   14 a result's S, T or value; a result that is not of its form
- *   15 a work list shorter than the count of terms
+ *   15 a work list or a list of reports shorter than the count of terms
  *   16 the store is full
+ *   17 a free word's low is above its high
  *
  * and one more is the library's own, which comes before all of them:
  *
- *  255 a session, numbers, a result, or the place of an answer or a reading, of another length than its form has
+ *  255 a session, numbers, lows, highs, a result, or the place of an answer or a reading, of another length than its form has
  *
- * Each function names its numbers below in the order in which they are tested. crates/forms/specs has the forms, and
- * crates/desk/specs each function's answer and every byte that it leaves, as definitions; the functions are proved equal
- * to them on all arguments.
+ * Each function names its numbers below in the order in which they are tested. crates/forms/specs has the forms, and the
+ * specs of crates/byte_opening, byte_fitting and so on each function's answer and every byte that it leaves, as definitions;
+ * the functions are proved equal to them on all arguments.
  */
 #ifndef DESK_H
 #define DESK_H
@@ -65,7 +66,8 @@ typedef uint32_t desk_place;
  *  72  halted mark: 0 or 1
  *  73  zero
  *
- * numbers, 32 bytes: the number for input i stands at 2 * i, a word; a constant ignores its own
+ * numbers, 32 bytes: the number for input i stands at 2 * i, a word; a constant ignores its own. The lows and the highs of
+ * desk_spans have this form too: there every input but a free word ignores its own
  *
  * result, 8 bytes: what desk_read reads; an answer begins with it
  *   0  S, two bytes
@@ -83,6 +85,11 @@ typedef uint32_t desk_place;
  *   1  zero
  *   2  its number, a word: 0 or 1 of a truth, the word, a procedure's record; 0 of an abort and of an error
  *
+ * report, three numbers of type uint32_t: written by desk_spans for each term, that of term i from number 3 * i on
+ *   0  one of enum desk_sort
+ *   1  low: of a truth 0 if it may be false, else 1; of a word the least that it may be; 0 where the kind is open
+ *   2  high: of a truth 1 if it may be true, else 0; of a word the most that it may be; 0 where the kind is open
+ *
  * A table is records of 8 bytes, a rule too: document 01 has their fields. */
 enum {
     DESK_WORD_BYTES = sizeof(desk_word),
@@ -92,6 +99,7 @@ enum {
     DESK_RESULT = 8,
     DESK_ANSWER = 10,
     DESK_READING = 2 * DESK_WORD_BYTES,
+    DESK_REPORT = 3,
     DESK_LEAST_TABLE = 272,
     DESK_MOST_TABLE = 65536,
     DESK_MOST_RULE = 32768,
@@ -118,6 +126,18 @@ enum desk_reading {
     DESK_PROCEDURE = 7,
     DESK_ABORT = 8,
     DESK_ERROR = 9
+};
+
+/* The numbers of a report, and what its first one says. */
+enum {
+    DESK_REPORT_SORT = 0,
+    DESK_REPORT_LOW = 1,
+    DESK_REPORT_HIGH = 2
+};
+enum desk_sort {
+    DESK_SORT_OPEN = 0,
+    DESK_SORT_TRUTH = 1,
+    DESK_SORT_WORD = 2
 };
 
 /* Opens a session: the table then holds the terms of the inputs and zeros, and the session is written.
@@ -160,6 +180,22 @@ uint8_t desk_run(const uint8_t *inputs, size_t inputs_len,
                  uint16_t allowance,
                  uint8_t *store, size_t store_len,
                  uint8_t *reading, size_t reading_len);
+
+/* Says what each term may read as while every moisture head, a free word, reads at its low, at its high or between: the
+ * truths that it may take, or the span in which its word lies, or that its kind is open. Every reading within the spans lies
+ * in what is reported. The list has DESK_REPORT numbers for each term: three times the session's count, or more; those past
+ * the last report are left as they were. Answers 255, 3, 17 or 15, or 0.
+ *
+ * What a gin may be told: take a session that was opened by desk_open and changed only by desk_evaluate, with the table that
+ * these left. If the report of its T (two bytes at DESK_INPUTS + 4) can only be true, which is sort 1 and low 1, then no
+ * reading within the spans errs: under no numbers within them does reading the last accepted result give an error, nor does
+ * running the accepted rules in turn (theorem no-reading-errs). A report of T that may be false promises nothing: there need
+ * not be a reading that errs. */
+uint8_t desk_spans(const uint8_t *session, size_t session_len,
+                   const uint8_t *table, size_t table_len,
+                   const uint8_t *lows, size_t lows_len,
+                   const uint8_t *highs, size_t highs_len,
+                   uint32_t *reports, size_t reports_len);
 
 #ifdef __cplusplus
 }

@@ -221,12 +221,12 @@ module _ (xs : List Input) (sixteen : length xs ≡ inputCount) (good : every in
       }
 
 -- ---- from the opening on
-record Taken (xs : List Input) (s : List ℕ) : Type 0 where
-  size : badTableSize (length s) ≡ false
-  good : every inputTaken xs ≡ true
-  is : openOf xs s ≡ (record { refusal = 0; session = sessionOf xs (length (opening xs .terms)) }, imageOf (length s) (opening xs .terms))
+pub record Taken (xs : List Input) (s : List ℕ) : Type 0 where
+  pub size : badTableSize (length s) ≡ false
+  pub good : every inputTaken xs ≡ true
+  pub is : openOf xs s ≡ (record { refusal = 0; session = sessionOf xs (length (opening xs .terms)) }, imageOf (length s) (opening xs .terms))
 
-accepts : (xs : List Input) (s : List ℕ) → openOf xs s .0 .refusal ≡ 0 → Taken xs s
+pub accepts : (xs : List Input) (s : List ℕ) → openOf xs s .0 .refusal ≡ 0 → Taken xs s
 unfolding openOf if_then_else_ unless_then_else_ with
 accepts xs s = go (badTableSize (length s)) (every inputTaken xs) refl refl
   where
@@ -237,7 +237,7 @@ accepts xs s = go (badTableSize (length s)) (every inputTaken xs) refl refl
     go false false p q e = absurd (omega arith)
 
 module _ (xs : List Input) (sixteen : length xs ≡ inputCount) (good : every inputTaken xs ≡ true) (l : ℕ) (size : badTableSize l ≡ false) (ns : List ℕ) (many : inputCount ≤ length ns) where
-  live-all : (h : History) (ks : List Call) → Live xs sixteen good l size ns many h → Live xs sixteen good l size ns many (calledAll h ks)
+  pub live-all : (h : History) (ks : List Call) → Live xs sixteen good l size ns many h → Live xs sixteen good l size ns many (calledAll h ks)
   unfolding calledAll
   live-all h [] live = live
   live-all h (k ∷ ks) live = live-all (called h k) ks (live-called xs sixteen good l size ns many h live k)

@@ -18,7 +18,7 @@ use Rattle.semantics.specs.Fits.{noFree}
 use Rattle.semantics.specs.Steps.{Setting, Got, gave, refused, Make, deeper, next, _>>=_, give, refuse, reads, up, upOf, makeOf}
 use Rattle.semantics.specs.Evaluation.{evalOf}
 use Rattle.typing.proofs.Grown.{Grown, still, more}
-use Rattle.depth.proofs.Built.{Congruence, kept-live}
+use Rattle.depth.proofs.Built.{AnyWord, Congruence, kept-live}
 
 -- The terms us are ts and some more, none a free input, each added where there were fewer than r.
 pub data Adds (r : ℕ) (ts : List Term) : List Term → Type 0 where
@@ -91,22 +91,24 @@ module _ (r q : ℕ) (h : r ≤ q) where
           rw (lt-ltb _ _ m) (added {a = length ts} {u = 0} (one n l none))
       go ts false false e = full
 
-  lengthens-congruence : Congruence (λ A m l. Lengthens r q m l)
+  lengthens-congruence : Congruence AnyWord (λ A m l. Lengthens r q m l)
   unfolding give refuse reads
   lengthens-congruence =
       record {
+        nought = tt;
+        worked-out = λ op v w i j. tt;
         giving = λ a. record { at = λ ts. added none };
         refusing = record { at = λ ts. same };
         going-on = then-longer;
-        reading = λ f m l k. record { at = λ ts. k (f ts) .at ts };
-        making = make-longer;
+        reading = λ f m l k. record { at = λ ts. k ts (λ n i. tt) .at ts };
+        making = λ t n w. make-longer t n;
       }
 
   eval-longer : (rule : List ℕ) (b d i e : ℕ) (y : State) → Lengthens r q (evalOf rule b d i e y) (evalOf rule b d i e y)
   unfolding evalOf refuse up
   eval-longer rule b zero i e y = record { at = λ ts. same }
   eval-longer rule b (suc d) i e y =
-      record { at = λ ts. longer-up (kept-live (λ A m l. Lengthens r q m l) lengthens-congruence rule b (evalOf rule b d) (evalOf rule b d) (eval-longer rule b d) i e y .at ts) }
+      record { at = λ ts. longer-up (kept-live (λ A m l. Lengthens r q m l) lengthens-congruence rule (λ j. tt) b (evalOf rule b d) (evalOf rule b d) (eval-longer rule b d) i e y .at ts) }
 
 -- ---- an evaluation that gives a result
 module _ (rule : List ℕ) (b d i e : ℕ) (y : State) (r : ℕ) (ts : List Term) {us : List Term} {w : Result} {u : ℕ} (p : evalOf rule b d i e y (record { room = r; search = findOf }) ts ≡ gave us w u) where

@@ -10,7 +10,7 @@ use Rattle.semantics.specs.declared.State.{State}
 use Rattle.semantics.specs.Numbers.{callTooWide, tableFull, depthSpent}
 use Rattle.semantics.specs.Steps.{Setting, Got, gave, refused, Make, deeper, next, _>>=_, give, refuse, reads, up, upOf, makeOf}
 use Rattle.semantics.specs.Evaluation.{evalOf}
-use Rattle.depth.proofs.Built.{Congruence, kept-live}
+use Rattle.depth.proofs.Built.{AnyWord, Congruence, kept-live}
 
 pub data Known {A : Type 0} : Got A → Type 0 where
   result : {ts : List Term} {a : A} {u : ℕ} → Known (gave ts a u)
@@ -48,22 +48,24 @@ made ts us a b true j = result
 made ts us a b false true = result
 made ts us a b false false = full
 
-knows-congruence : Congruence (λ A m l. Knows m)
+knows-congruence : Congruence AnyWord (λ A m l. Knows m)
 unfolding give refuse reads makeOf
 knows-congruence =
     record {
+      nought = tt;
+      worked-out = λ op v w p q. tt;
       giving = λ a. record { at = λ z ts. result };
       refusing = record { at = λ z ts. too-wide };
       going-on = then-knows;
-      reading = λ f m l k. record { at = λ z ts. k (f ts) .at z ts };
-      making = λ t n. record { at = λ z ts. made ts (t ∷ ts) (z .search ts t .at) (length ts) (z .search ts t .is) (ltb (length ts) (z .room)) };
+      reading = λ f m l k. record { at = λ z ts. k ts (λ n i. tt) .at z ts };
+      making = λ t n w. record { at = λ z ts. made ts (t ∷ ts) (z .search ts t .at) (length ts) (z .search ts t .is) (ltb (length ts) (z .room)) };
     }
 
 knows-eval : (rule : List ℕ) (b d i e : ℕ) (y : State) → Knows (evalOf rule b d i e y)
 unfolding evalOf refuse up
 knows-eval rule b zero i e y = record { at = λ z ts. spent }
 knows-eval rule b (suc d) i e y =
-    record { at = λ z ts. known-up (kept-live (λ A m l. Knows m) knows-congruence rule b (evalOf rule b d) (evalOf rule b d) (knows-eval rule b d) i e y .at z ts) }
+    record { at = λ z ts. known-up (kept-live (λ A m l. Knows m) knows-congruence rule (λ j. tt) b (evalOf rule b d) (evalOf rule b d) (knows-eval rule b d) i e y .at z ts) }
 
 pub eval-known : (rule : List ℕ) (b d i e : ℕ) (y : State) (z : Setting) (ts : List Term) → Known (evalOf rule b d i e y z ts)
 eval-known rule b d i e y z ts = knows-eval rule b d i e y .at z ts

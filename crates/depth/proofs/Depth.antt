@@ -14,7 +14,7 @@ use Rattle.semantics.specs.declared.Result.{Result}
 use Rattle.semantics.specs.Numbers.{depthSpent, tableFull}
 use Rattle.semantics.specs.Steps.{Setting, Got, gave, refused, Make, deeper, next, _>>=_, give, refuse, reads, up, upOf, makeOf}
 use Rattle.semantics.specs.Evaluation.{liveOf, evalOf}
-use Rattle.depth.proofs.Built.{Congruence, kept-live}
+use Rattle.depth.proofs.Built.{AnyWord, Congruence, kept-live}
 
 -- What a step gives where it may use the depth k, beside what it gives where it may use more: the same if it uses no more than k, and else
 -- the refusal for depth.
@@ -59,15 +59,17 @@ module _ (k : ℕ) where
       go z x y (deep {ts = ts} {a = a} {u = u} b) = cut-deep u b (g a z ts)
       go z x y stop = stop
 
-  cuts-congruence : Congruence (λ A m l. Cuts k m l)
+  cuts-congruence : Congruence AnyWord (λ A m l. Cuts k m l)
   unfolding give refuse reads makeOf
   cuts-congruence =
       record {
+        nought = tt;
+        worked-out = λ op v w p q. tt;
         giving = λ a. record { at = λ z ts. same {u = 0} (omega arith) };
         refusing = record { at = λ z ts. stop };
         going-on = cuts-then;
-        reading = λ f m l h. record { at = λ z ts. h (f ts) .at z ts };
-        making = λ t n. record { at = λ z ts. cut-made ts (t ∷ ts) (z .search ts t .at) (length ts) (z .search ts t .is) (ltb (length ts) (z .room)) };
+        reading = λ f m l h. record { at = λ z ts. h ts (λ n i. tt) .at z ts };
+        making = λ t n w. record { at = λ z ts. cut-made ts (t ∷ ts) (z .search ts t .at) (length ts) (z .search ts t .is) (ltb (length ts) (z .room)) };
       }
 
 -- an expression uses a depth of 1 or more
@@ -82,7 +84,7 @@ eval-cuts rule b zero zero h i e y = record { at = λ z ts. stop }
 eval-cuts rule b zero (suc d) h i e y = record { at = λ z ts. cut-none (liveOf rule b (evalOf rule b d) i e y z ts) }
 eval-cuts rule b (suc k) zero h i e y = absurd (omega arith)
 eval-cuts rule b (suc k) (suc d) h i e y =
-    record { at = λ z ts. cut-up (kept-live (λ A m l. Cuts k m l) (cuts-congruence k) rule b (evalOf rule b k) (evalOf rule b d) (eval-cuts rule b k d (omega arith)) i e y .at z ts) }
+    record { at = λ z ts. cut-up (kept-live (λ A m l. Cuts k m l) (cuts-congruence k) rule (λ j. tt) b (evalOf rule b k) (evalOf rule b d) (eval-cuts rule b k d (omega arith)) i e y .at z ts) }
 
 -- ---- the reported depth
 module _ (rule : List ℕ) (b i e : ℕ) (y : State) (z : Setting) (ts : List Term) where

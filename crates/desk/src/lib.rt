@@ -6,6 +6,7 @@
 //   result     8 bytes: S, T and the value, two bytes each, the halted mark and a zero
 //   answer    10 bytes: S, T, the value (0 of a halt), the halted mark and the depth, two bytes each
 //   reading    4 bytes: 1 a truth, 2 a word, 7 a procedure, 8 an abort or 9 an error, and its number, each as a word
+//   reports   a list of numbers of four bytes: of each term its sort (0 open, 1 a truth, 2 a word), its low and its high
 // A form of another length than its own is refused by 255 before anything else; inputs of another length, and what stands
 // in a form (a pad byte that is not zero, a mark over 1), by the operation's own number in its order of tests: inputs by
 // 2, a session by 3, a result by 14. A refusal leaves what is lent as it was, but for the work list and the store, which
@@ -18,6 +19,7 @@ ghost use Rattle.byte_fitting.specs.Fits.{deskFits};
 ghost use Rattle.byte_evaluating.specs.Evaluate.{deskEvaluate};
 ghost use Rattle.byte_reading.specs.Read.{deskRead};
 ghost use Rattle.byte_running.specs.Run.{deskRun};
+ghost use Rattle.byte_spans.specs.Spans.{deskSpans};
 
 // Opens a session over a table and writes it.
 #[no_mangle]
@@ -85,4 +87,20 @@ pub extern "C" fn desk_run(
     ensures { λ r. ⌜ (r, now (store .exit), now (reading .exit)) ≡ deskRun (now (inputs .entry)) (now (numbers .entry)) (now (rule .entry)) allowance (now (store .entry)) (now (reading .entry)) ⌝ }
 {
     byte_running::run(inputs, numbers, rule, allowance, store, reading)
+}
+
+// Reports on each term, with the free words within their spans. Where the session was kept from its opening and the report
+// of its T can only be true (sort 1, low 1), no head that stays within its span brings about an error: neither does
+// reading the last accepted result under such numbers, nor running the accepted rules (theorem no-reading-errs).
+#[no_mangle]
+pub extern "C" fn desk_spans(
+    session: &[u8],
+    table: &[u8],
+    lows: &[u8],
+    highs: &[u8],
+    reports: &mut [u32],
+) -> u8
+    ensures { λ r. ⌜ (r, now (reports .exit)) ≡ deskSpans (now (session .entry)) (now (table .entry)) (now (lows .entry)) (now (highs .entry)) (now (reports .entry)) ⌝ }
+{
+    byte_spans::spans(session, table, lows, highs, reports)
 }

@@ -1,11 +1,12 @@
--- The work list: each place holds its term's result of a fold, here what the term reads as, and in the end zero. Assumes nothing.
+-- A list that holds a fold's result for each term: the laws of any such list, and the reader's work list, whose places hold what the terms read as and
+-- in the end zero. Assumes nothing.
 use mathlib.Core.Path.{_≡_, refl, sym, ap, _∙_}
 use mathlib.Core.Bool.{Bool, true, false}
 use mathlib.Core.List.{List, _∷_, _++_, append-nil}
 use Prim.Native.Nat.{ℕ, suc, _+_, _*_, _/_, _%_, _<_, _≤_}
 use native.Mathlib.Numerals.{add-one}
 use native.Mathlib.Omega.{arith}
-use lib.ListN.{length, getD, set, drop, replicate, drop-of-length-le, List·getD-eq-default}
+use lib.ListN.{length, set, drop, replicate, drop-of-length-le, List·getD-eq-default}
 use lib.Seq.{getD-set-same, getD-set-other}
 use lib.Dec.{eqb, ltb}
 use borrow.Author.Fill.{fill-more}
@@ -20,11 +21,11 @@ use Rattle.semantics.specs.declared.Outcome.the-variants.{Refused}
 use Rattle.semantics.specs.Numbers.{workShort}
 use Rattle.semantics.specs.Terms.{termAt, termsIn}
 use Rattle.semantics.specs.Fold.{FromLower, numbered, foldTerms, foldAt}
-use Rattle.semantics.specs.Reading.{readingOf, nothing, isTrue, readings, resultOutcome, readIn}
+use Rattle.semantics.specs.Reading.{readingOf, nothing, isTrue, termReading, readings, resultOutcome, readIn}
 use Rattle.semantics.proofs.Fold.{fold-newest, fold-lower}
 use Rattle.terms.proofs.Tables.{terms-length}
 use Rattle.reader.specs.Work.{heldOf, Holds}
-use Rattle.reader.specs.Reader.{unpackedOf, lowerOf, Reads, outcomeIn}
+use Rattle.reader.specs.Reader.{unpackedOf, heldReading, lowerOf, Reads, outcomeIn}
 
 -- ---- a place
 
@@ -37,61 +38,65 @@ packed k n h l =
     rw (p, q)
 
 -- what is held below i, and past it
-module _ {A : Type 0} (unpack : ℕ → A) (d : A) (m : List ℕ) (i k : ℕ) where
-  pub held-in : k < i → {v : A} → v ≡ unpack (getD m k 0) → v ≡ heldOf unpack d m i k
+module _ {A : Type 0} (held : List ℕ → ℕ → A) (d : A) (m : List ℕ) (i k : ℕ) where
+  pub held-in : k < i → {v : A} → v ≡ held m k → v ≡ heldOf held d m i k
   unfolding heldOf if_below_then_else_
   held-in h g = rw (lt-ltb k i h) g
 
-  pub held-past : unpack 0 ≡ d → k < i → length m ≤ k → d ≡ heldOf unpack d m i k
-  unfolding heldOf if_below_then_else_
-  held-past z h l = rw (lt-ltb k i h, List·getD-eq-default m 0 l, z)
-
-  pub held-out : i ≤ k → d ≡ heldOf unpack d m i k
+  pub held-out : i ≤ k → d ≡ heldOf held d m i k
   unfolding heldOf if_below_then_else_
   held-out h = rw (le-ltb k i h)
 
-pub zero-nothing : unpackedOf 0 ≡ nothing
+-- past the last place stands nothing
+pub reading-past : (m : List ℕ) (k : ℕ) → length m ≤ k → nothing ≡ heldReading m k
 unfolding unpackedOf
-zero-nothing = refl
+reading-past m k l = rw (List·getD-eq-default m 0 l)
 
-pub ruleset lowers = (held-in, held-past, held-out, zero-nothing)
+pub ruleset lowers = (held-in, held-out, reading-past)
 
 -- ---- the results of the first terms
 
-module _ {A : Type 0} {unpack : ℕ → A} {f : FromLower A} {d : A} where
+module _ {A : Type 0} {held : List ℕ → ℕ → A} {f : FromLower A} {d : A} where
   -- of none
-  pub holds-start : (s m : List ℕ) → Holds unpack f d s 0 m
+  pub holds-start : (s m : List ℕ) → Holds held f d s 0 m
   unfolding foldTerms numbered termsIn heldOf if_below_then_else_
   holds-start s m = record { is = λ k. rw (le-ltb k 0 (omega arith)) }
 
-  -- of one more: what is packed is the term's result, from those below it
-  pub holds-next : {s : List ℕ} {i : ℕ} {m : List ℕ} (n : ℕ) {t : Term} {x y z v : A} → Holds unpack f d s i m → i < length m → t ≡ termAt s i
-      → x ≡ heldOf unpack d m i (t .a) → y ≡ heldOf unpack d m i (t .b) → z ≡ heldOf unpack d m i (t .c) → v ≡ f t x y z → unpack n ≡ v
-      → Holds unpack f d s (i + 1) (set m i n)
+  -- of one more: the list then holds the term's result, made of those below it, which stay
+  pub holds-next : {s : List ℕ} {i : ℕ} {m : List ℕ} (n : List ℕ) {t : Term} {x y z v : A} → Holds held f d s i m → t ≡ termAt s i
+      → x ≡ heldOf held d m i (t .a) → y ≡ heldOf held d m i (t .b) → z ≡ heldOf held d m i (t .c) → v ≡ f t x y z
+      → held n i ≡ v → ((k : ℕ) → k < i → held n k ≡ held m k) → Holds held f d s (i + 1) n
   unfolding termsIn heldOf if_below_then_else_
-  holds-next {s} {i} {m} n {t} {x} {y} {z} {v} g h et ex ey ez ev en = record { is = λ k. rw add-one (go k (eqb k i) refl) }
+  holds-next {s} {i} {m} n {t} {x} {y} {z} {v} g et ex ey ez ev en same = record { is = λ k. rw add-one (go k (eqb k i) refl) }
     where
       l : length (termsIn s i) ≡ i
       l = terms-length s i
 
-      new : unpack n ≡ f (termAt s i) (foldAt f d (termsIn s i) (termAt s i .a)) (foldAt f d (termsIn s i) (termAt s i .b)) (foldAt f d (termsIn s i) (termAt s i .c))
+      new : held n i ≡ f (termAt s i) (foldAt f d (termsIn s i) (termAt s i .a)) (foldAt f d (termsIn s i) (termAt s i .b)) (foldAt f d (termsIn s i) (termAt s i .c))
       new = rw (← et, ← g .is (t .a), ← g .is (t .b), ← g .is (t .c), ← ex, ← ey, ← ez) (en ∙ ev)
 
-      newest : foldAt f d (termAt s i ∷ termsIn s i) i ≡ unpack n
+      newest : foldAt f d (termAt s i ∷ termsIn s i) i ≡ held n i
       newest = ap (foldAt f d (termAt s i ∷ termsIn s i)) (sym l) ∙ (fold-newest f d (termAt s i) (termsIn s i) ∙ sym new)
 
-      go : (k : ℕ) (b : Bool) → eqb k i ≡ b → pick (ltb k (suc i)) (unpack (getD (set m i n) k 0)) d ≡ foldAt f d (termAt s i ∷ termsIn s i) k
-      go k true q = let e : k ≡ i = eqb-true k i q in rw (lt-ltb k (suc i) (omega arith), e, getD-set-same m i n 0 h, newest)
-      go k false q =
-          rw (getD-set-other m i k n 0 (eqb-false k i q), fold-lower f d (termAt s i) (termsIn s i) k (λ e. eqb-false k i q (e ∙ l))) (low (ltb k i) refl)
+      go : (k : ℕ) (b : Bool) → eqb k i ≡ b → pick (ltb k (suc i)) (held n k) d ≡ foldAt f d (termAt s i ∷ termsIn s i) k
+      go k true q = let e : k ≡ i = eqb-true k i q in rw (lt-ltb k (suc i) (omega arith), e, newest)
+      go k false q = rw (fold-lower f d (termAt s i) (termsIn s i) k (λ e. eqb-false k i q (e ∙ l))) (low (ltb k i) refl)
         where
-          low : (b : Bool) → ltb k i ≡ b → pick (ltb k (suc i)) (unpack (getD m k 0)) d ≡ foldAt f d (termsIn s i) k
-          low true w = rw (lt-ltb k (suc i) (omega (arith, ltb-true k i w))) (rw w at (g .is k))
+          low : (b : Bool) → ltb k i ≡ b → pick (ltb k (suc i)) (held n k) d ≡ foldAt f d (termsIn s i) k
+          low true w = let h = ltb-true k i w in rw (lt-ltb k (suc i) (omega arith), same k h) (rw w at (g .is k))
           low false w = rw (le-ltb k (suc i) (omega (arith, ltb-false k i w, eqb-false k i q))) (rw w at (g .is k))
 
   -- of all
-  pub holds-end : (s : List ℕ) (i n : ℕ) (m : List ℕ) → Holds unpack f d s i m → i ≤ n → n ≤ i → Holds unpack f d s n m
+  pub holds-end : (s : List ℕ) (i n : ℕ) (m : List ℕ) → Holds held f d s i m → i ≤ n → n ≤ i → Holds held f d s n m
   holds-end s i n m g a b = let e : i ≡ n = omega arith in rw e at g
+
+-- ---- the work list has one place for each term: what is set at place i is there, and what is below it stays
+pub reads-next : (numbers : List ℕ) {s : List ℕ} {i : ℕ} {m : List ℕ} (n : ℕ) {t : Term} {x y z v : Reading} → Reads numbers s i m → i < length m → t ≡ termAt s i
+    → x ≡ lowerOf m i (t .a) → y ≡ lowerOf m i (t .b) → z ≡ lowerOf m i (t .c) → v ≡ termReading numbers t x y z → unpackedOf n ≡ v → Reads numbers s (i + 1) (set m i n)
+reads-next numbers {i = i} {m = m} n g h et ex ey ez ev en = holds-next (set m i n) g et ex ey ez ev (rw (getD-set-same m i n 0 h) en) lower-stays
+  where
+    lower-stays : (k : ℕ) → k < i → heldReading (set m i n) k ≡ heldReading m k
+    lower-stays k l = let e : k ≡ i → ⊥ = λ q. omega arith in rw (getD-set-other m i k n 0 e)
 
 -- ---- what the result reads as, of l places
 

@@ -3,6 +3,7 @@ use mathlib.Core.Bool.{Bool, true}
 use mathlib.Core.List.{List}
 use Prim.Native.Nat.{ℕ, _/_, _%_}
 use lib.Dec.{ltb}
+use lib.ListN.{getD}
 use Rattle.words.specs.Words.{wordLimit}
 use Rattle.notation.specs.Notation.{if_equals_then_else_, if_below_then_else_}
 use Rattle.semantics.specs.declared.Input.{Input}
@@ -27,10 +28,14 @@ outcomeIn s count numbers r l = if l below count then Refused workShort else rea
 unfoldable pub unpackedOf : ℕ → Reading
 unpackedOf n = readingOf (n / wordLimit % 256) (n % wordLimit)
 
+-- the reading at place k of the work list
+abbrev pub heldReading : List ℕ → ℕ → Reading
+heldReading work k = unpackedOf (getD work k 0)
+
 -- what the term k reads as, of the first i in a work list
 abbrev pub lowerOf : List ℕ → ℕ → ℕ → Reading
-lowerOf work i k = heldOf unpackedOf nothing work i k
+lowerOf work i k = heldOf heldReading nothing work i k
 
 -- the work list holds what the first i terms of the table s read as
 abbrev pub Reads : List ℕ → List ℕ → ℕ → List ℕ → Type 0
-Reads numbers s i work = Holds unpackedOf (termReading numbers) nothing s i work
+Reads numbers s i work = Holds heldReading (termReading numbers) nothing s i work

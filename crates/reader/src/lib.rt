@@ -181,7 +181,7 @@ fn term_reading(t: Term, numbers: [Word; 16], x: Reading, y: Reading, z: Reading
 }
 
 // The number of an input; 0 past the last.
-fn number(numbers: [Word; 16], i: u16) -> Word
+pub fn number(numbers: [Word; 16], i: u16) -> Word
     ensures { λ r. ⌜ r ≡ getD numbers i 0 ⌝ }
 {
     if i < numbers::INPUT_COUNT {

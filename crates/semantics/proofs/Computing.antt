@@ -1,4 +1,4 @@
--- Every definition of document 01, opened for the checker to compute with: name `computing` on an `unfolding` line. Each line below has the
+-- Every definition of documents 01 and 02, opened for the checker to compute with: name `computing` on an `unfolding` line. Each line below has the
 -- unfoldable definitions of one file, in its order. Assumes nothing.
 use Prim.Native.Nat.{ℕ}
 use lib.Count.{ones, onesIn, leadingZeros}
@@ -19,6 +19,7 @@ use Rattle.semantics.specs.Fits as Fits
 use Rattle.semantics.specs.Evaluate as Evaluate
 use Rattle.semantics.specs.Fold as Fold
 use Rattle.semantics.specs.Reading as Reading
+use Rattle.semantics.specs.Spans as Spans
 use Rattle.semantics.specs.Run as Run
 use Rattle.semantics.specs.PlainRun as PlainRun
 use Rattle.semantics.specs.History as History
@@ -92,6 +93,10 @@ unfoldable reading : ℕ
 unfolding Reading.isTrue Reading.isTruth Reading.isWord Reading.passes Reading.resultReading Reading.operandsAreWords Reading.operationReading Reading.operatorReading Reading.termReading Reading.readings Reading.valueOutcome Reading.resultOutcome Reading.numbersTaken Reading.resultTaken Reading.readIn Reading.readOutcome Reading.readOf
 reading = 0
 
+unfoldable spans : ℕ
+unfolding Spans.onlyTrue Spans.onlyFalse Spans.areSpans Spans.areTruths Spans.sumReport Spans.differenceReport Spans.lessReport Spans.notReport Spans.andReport Spans.orReport Spans.otherReport Spans.operatorReport Spans.coverOf Spans.choiceReport Spans.termReport Spans.reports Spans.endOf Spans.endsOf Spans.laid Spans.spanTaken Spans.spansTaken Spans.spansOf
+spans = 0
+
 unfoldable run : ℕ
 unfolding Run.after Run.placedOr Run.isFalse Run.isAWord Run.isAProcedure Run.wordIn Run.operationValue Run.wordsRun Run.operatorRun Run.datumValue Run.callRun Run.expressionRun Run.runBy Run.inputValue Run.inputsBound
 run = 0
@@ -109,5 +114,5 @@ unfolding Print.inputsFrom Print.inputsWhole Print.termLine Print.termLines Prin
 print = 0
 
 unfoldable pub computing : ℕ
-unfolding notation words operators records rules terms steps factory opening states walk merge evaluation fits evaluate fold reading run plainRun history print
+unfolding notation words operators records rules terms steps factory opening states walk merge evaluation fits evaluate fold reading spans run plainRun history print
 computing = 0

@@ -14,6 +14,7 @@ pub mod Answers
 pub mod Evaluate
 pub mod Fold
 pub mod Reading
+pub mod Spans
 pub mod Run
 pub mod PlainRun
 pub mod Bindings

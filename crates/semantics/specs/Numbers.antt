@@ -1,4 +1,4 @@
--- The numbers of document 01 by name: kinds, codes, refusals and limits. Assumes nothing.
+-- The numbers of documents 01 and 02 by name: kinds, codes, refusals and limits. Assumes nothing.
 use Prim.Native.Nat.{ℕ}
 
 -- ---- "Rule records": the kinds of a record
@@ -39,7 +39,20 @@ trueDatum = 1
 abbrev pub wordDatum : ℕ
 wordDatum = 2
 
--- ---- "Operators": the codes that 0 absorbs
+-- ---- "Operators": the codes whose spans are worked out
+-- 1 add
+abbrev pub addCode : ℕ
+addCode = 1
+
+-- 2 subtract
+abbrev pub subtractCode : ℕ
+subtractCode = 2
+
+-- 11 less
+abbrev pub lessCode : ℕ
+lessCode = 11
+
+-- ---- the codes that 0 absorbs
 -- 3 multiply
 abbrev pub multiplyCode : ℕ
 multiplyCode = 3
@@ -188,13 +201,17 @@ badNumber = 13
 abbrev pub badResult : ℕ
 badResult = 14
 
--- a work list shorter than the count
+-- a work list, or a list of reports, shorter than the count
 abbrev pub workShort : ℕ
 workShort = 15
 
 -- the store is full
 abbrev pub storeFull : ℕ
 storeFull = 16
+
+-- a free word's low exceeds its high
+abbrev pub badSpan : ℕ
+badSpan = 17
 
 -- what no operation answers: a run that would end with what is no value
 abbrev pub noValue : ℕ

@@ -107,6 +107,14 @@ pub struct Reading {
     pub number: Word,
 }
 
+// What a term may read as: a truth or a word, by its sort, and the least and the greatest number. A truth is 0 or 1, so
+// that the truths that it may take are a span too. Sort 0: its kind is open.
+pub struct Report {
+    pub sort: u8,
+    pub low: Word,
+    pub high: Word,
+}
+
 // What reading a result, or running a rule, answers. A procedure answers with the number of its record, which a word holds.
 pub enum Outcome {
     Truth(bool),

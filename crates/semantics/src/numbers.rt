@@ -1,4 +1,4 @@
-// The numbers of document 01 by name: kinds, codes, refusals and limits, as in specs/Numbers.antt.
+// The numbers of documents 01 and 02 by name: kinds, codes, refusals and limits, as in specs/Numbers.antt.
 
 // "Rule records": the kinds of a record.
 pub const DATUM_RECORD: u8 = 1;
@@ -26,7 +26,14 @@ pub const TRUE_DATUM: u8 = 1;
 
 pub const WORD_DATUM: u8 = 2;
 
-// "Operators": the codes that 0 absorbs.
+// "Operators": the codes whose spans are worked out.
+pub const ADD_CODE: u8 = 1;
+
+pub const SUBTRACT_CODE: u8 = 2;
+
+pub const LESS_CODE: u8 = 11;
+
+// The codes that 0 absorbs.
 pub const MULTIPLY_CODE: u8 = 3;
 
 pub const BITWISE_AND_CODE: u8 = 4;
@@ -118,10 +125,12 @@ pub const DEPTH_SPENT: u8 = 12;
 pub const BAD_NUMBER: u8 = 13;
 // The result's S or T is no truth below the count, or its value a binding or not below it.
 pub const BAD_RESULT: u8 = 14;
-// A work list shorter than the count.
+// A work list, or a list of reports, shorter than the count.
 pub const WORK_SHORT: u8 = 15;
 // The store is full.
 pub const STORE_FULL: u8 = 16;
+// A free word's low exceeds its high.
+pub const BAD_SPAN: u8 = 17;
 // What no operation answers: a run that would end with what is no value.
 pub const NO_VALUE: u8 = 254;
 

@@ -26,23 +26,23 @@ abbrev pub All : (Term → Type 0) → List Term → Type 0
 All P ts = Each (λ us t. P t) ts
 
 -- of the terms that a step leaves
-data Leaves (P : Term → Type 0) {A : Type 0} : Got A → Type 0 where
+pub data Leaves (P : Term → Type 0) {A : Type 0} : Got A → Type 0 where
   leaves : {us : List Term} {a : A} {u : ℕ} → All P us → Leaves P (gave us a u)
   nothing : {k : ℕ} → Leaves P (refused k)
 
-record Keeps (P : Term → Type 0) {A : Type 0} (m : Make A) : Type 0 where
-  at : (z : Setting) (ts : List Term) → All P ts → Leaves P (m z ts)
+pub record Keeps (P : Term → Type 0) {A : Type 0} (m : Make A) : Type 0 where
+  pub at : (z : Setting) (ts : List Term) → All P ts → Leaves P (m z ts)
 
 module _ {P : Term → Type 0} where
   leaves-deeper : {A : Type 0} {x : Got A} (u : ℕ) → Leaves P x → Leaves P (deeper u x)
   leaves-deeper u (leaves h) = leaves h
   leaves-deeper u nothing = nothing
 
-  keeps-give : {A : Type 0} (a : A) → Keeps P (give a)
+  pub keeps-give : {A : Type 0} (a : A) → Keeps P (give a)
   unfolding give
   keeps-give a = record { at = λ z ts h. leaves h }
 
-  keeps-then : {A B : Type 0} {m : Make A} {f : A → Make B} → Keeps P m → ((a : A) → Keeps P (f a)) → Keeps P (m >>= f)
+  pub keeps-then : {A B : Type 0} {m : Make A} {f : A → Make B} → Keeps P m → ((a : A) → Keeps P (f a)) → Keeps P (m >>= f)
   unfolding _>>=_
   keeps-then {A} {B} {m} {f} k g = record { at = λ z ts h. go z (m z ts) (k .at z ts h) }
     where
@@ -54,7 +54,7 @@ module _ {P : Term → Type 0} where
   unfolding _▹_
   keeps-map f k = keeps-then k (λ a. keeps-give (f a))
 
-  keeps-make : (t : Term) → P t → Keeps P (makeOf t)
+  pub keeps-make : (t : Term) → P t → Keeps P (makeOf t)
   unfolding makeOf
   keeps-make t p = record { at = λ z ts h. go z ts h (z .search ts t .is) (ltb (length ts) (z .room)) }
     where
@@ -86,7 +86,7 @@ module _ (P : Term → Type 0) (no : P (term truthTerm 0 0 0 0)) (yes : P (term 
       keeps-then (keeps-make (term truthTerm 0 0 0 0) no) (λ f. keeps-then (keeps-make (term truthTerm 0 1 0 0) yes) (λ t.
       keeps-then (keeps-inputs 0 xs h) (λ vs. keeps-chain vs)))
 
-  opening-all : (xs : List Input) → EachIn (λ j x. P (inputTerm j x)) 0 xs → (z : Setting) {ts : List Term} {e u : ℕ} → openingOf xs z [] ≡ gave ts e u → All P ts
+  pub opening-all : (xs : List Input) → EachIn (λ j x. P (inputTerm j x)) 0 xs → (z : Setting) {ts : List Term} {e u : ℕ} → openingOf xs z [] ≡ gave ts e u → All P ts
   opening-all xs h z {ts} {e} {u} q = go (openingOf xs z []) (keeps-opening xs h .at z [] tt) q
     where
       go : (x : Got ℕ) → Leaves P x → x ≡ gave ts e u → All P ts

@@ -94,7 +94,7 @@ small-bit zero h = refl
 small-bit (suc zero) h = refl
 small-bit (suc (suc n)) h = absurd (omega arith)
 
-bit-small : (b : Bool) → bitOf b < 2
+pub bit-small : (b : Bool) → bitOf b < 2
 bit-small true = omega arith
 bit-small false = omega arith
 
@@ -111,19 +111,20 @@ module _ (op : ℕ) where
   unfolding resultReading with if_then_else_
   result-word w h = rw h
 
+  -- a truth is 0 or 1
+  pub operate-small : (x y : ℕ) → givesTruthOf op ≡ true → operateOf op x y < 2
+  operate-small x y h = rw (truth-bit op x y h) (pick-small (eqb op 11))
+    where
+      pick-small : (b : Bool) → pick b (bitOf (ltb x y)) (bitOf (eqb x y)) < 2
+      pick-small true = bit-small (ltb x y)
+      pick-small false = bit-small (eqb x y)
+
   -- what is worked out
   result-same : (x y : ℕ) → resultReading op (operateOf op x y) ≡ readingIn (operationValue op x y)
   result-same x y = go (givesTruthOf op) refl
     where
-      small : givesTruthOf op ≡ true → operateOf op x y < 2
-      small h = rw (truth-bit op x y h) (pick-small (eqb op 11))
-        where
-          pick-small : (b : Bool) → pick b (bitOf (ltb x y)) (bitOf (eqb x y)) < 2
-          pick-small true = bit-small (ltb x y)
-          pick-small false = bit-small (eqb x y)
-
       go : (b : Bool) → givesTruthOf op ≡ b → resultReading op (operateOf op x y) ≡ readingIn (operationValue op x y)
-      go true h = result-truth (operateOf op x y) h ∙ (ap (readingOf truthTerm) (small-bit (operateOf op x y) (small h)) ∙ ap readingIn (sym (operation-truth op x y h)))
+      go true h = result-truth (operateOf op x y) h ∙ (ap (readingOf truthTerm) (small-bit (operateOf op x y) (operate-small x y h)) ∙ ap readingIn (sym (operation-truth op x y h)))
       go false h = result-word (operateOf op x y) h ∙ ap readingIn (sym (operation-word op x y h))
 
   wrong-same : resultReading op 0 ≡ readingIn (wrongValue op)
@@ -227,17 +228,18 @@ nothing-link k u v = go (eqb k bindingTerm)
     go true = record { is = refl }
     go false = record { is = refl }
 
-module _ (ns : List ℕ) (n : ℕ) (us : List Term) (t : Term) (x y z : Value) (h : laidOut n us t ≡ true) (small : SmallTerm ns t) where
-  constant-small : t .kind ≡ truthTerm → t .a < 2
+module _ (n : ℕ) (us : List Term) (t : Term) (h : laidOut n us t ≡ true) where
+  pub constant-small : t .kind ≡ truthTerm → t .a < 2
   unfolding laidOut if_equals_then_else_
   constant-small k =
       by-test (eqb (t .op) 0) (ltb (t .a) 2 && (eqb (t .b) 0 && eqb (t .c) 0)) false (rw k at h)
       (λ i e. both (ltb (t .a) 2) (eqb (t .b) 0 && eqb (t .c) 0) e λ p q. omega (arith, ltb-true (t .a) 2 p)) (λ i e. never e)
 
-  operator-laid : t .kind ≡ operatorTerm → operandsLaidOut us (t .op) (t .a) (t .b) ≡ true
+  pub operator-laid : t .kind ≡ operatorTerm → operandsLaidOut us (t .op) (t .a) (t .b) ≡ true
   unfolding laidOut if_equals_then_else_
   operator-laid k = both (operandsLaidOut us (t .op) (t .a) (t .b)) (eqb (t .c) 0) (rw k at h) λ p q. p
 
+module _ (ns : List ℕ) (n : ℕ) (us : List Term) (t : Term) (x y z : Value) (h : laidOut n us t ≡ true) (small : SmallTerm ns t) where
   constant-same : (a : ℕ) → a < 2 → readingOf truthTerm a ≡ truthReading (not (eqb a 0))
   constant-same zero l = refl
   constant-same (suc zero) l = refl
@@ -254,9 +256,9 @@ module _ (ns : List ℕ) (n : ℕ) (us : List Term) (t : Term) (x y z : Value) (
   term-link : Linked (termReading ns t (readingIn x) (readingIn y) (readingIn z)) (termMeaning ns t x y z)
   unfolding termReading termMeaning with
   term-link =
-      eq-link _ _ (λ k. record { is = constant-same (t .a) (constant-small k) }) (eq-link _ _ (λ k. record { is = refl })
+      eq-link _ _ (λ k. record { is = constant-same (t .a) (constant-small n us t h k) }) (eq-link _ _ (λ k. record { is = refl })
       (eq-link _ _ (λ k. record { is = ap (readingOf truthTerm) (small-bit (getD ns (t .a) 0) (small k)) }) (eq-link _ _ (λ k. record { is = refl })
-      (eq-link _ _ (λ k. record { is = operator-same us (t .a) (t .b) (t .op) x y (operator-laid k) }) (eq-link _ _ (λ k. record { is = choice-same })
+      (eq-link _ _ (λ k. record { is = operator-same us (t .a) (t .b) (t .op) x y (operator-laid n us t h k) }) (eq-link _ _ (λ k. record { is = choice-same })
       (eq-link _ _ (λ k. record { is = refl }) (nothing-link (t .kind) x y)))))))
 
 -- What is read of a number is what it means.

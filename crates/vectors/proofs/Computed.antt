@@ -9,10 +9,10 @@ use Rattle.vectors.specs.Vectors as Vectors
 
 -- sessions with every kind of step and of refusal
 pub sessions-hold : Table.allHold Vectors.sessions ≡ true
-unfolding computing Table.alike Table.allHold Table.desk Table.answer Table.reading Script.termNumbers Script.played Script.openedWith Script.script Script.lineNumbers Vectors.sessions Vectors.prints
+unfolding computing Table.alike Table.allHold Table.desk Table.answer Table.reading Script.termNumbers Script.reportNumbers Script.played Script.openedWith Script.script Script.lineNumbers Vectors.sessions Vectors.prints
 sessions-hold = refl
 
 -- what the printing program prints
 pub prints-hold : Table.allHold Vectors.prints ≡ true
-unfolding computing Table.alike Table.allHold Table.desk Table.answer Table.reading Script.termNumbers Script.played Script.openedWith Script.script Script.lineNumbers Vectors.sessions Vectors.prints
+unfolding computing Table.alike Table.allHold Table.desk Table.answer Table.reading Script.termNumbers Script.reportNumbers Script.played Script.openedWith Script.script Script.lineNumbers Vectors.sessions Vectors.prints
 prints-hold = refl

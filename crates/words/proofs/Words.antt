@@ -1,12 +1,12 @@
 -- Laws of words: a word in its fields; for every width k, what the operators give is a word, and how they wrap. Assumes nothing.
 use mathlib.Core.Path.{_≡_, ap, subst⁻¹, _∙_}
-use Prim.Native.Nat.{ℕ, zero, _+_, _-_, _*_, _%_, _^_, _<_, _≤_}
+use Prim.Native.Nat.{ℕ, zero, suc, _+_, _-_, _*_, _%_, _^_, _<_, _≤_}
 use native.Mathlib.Nat.{add-comm, mul-comm, le-of-lt, lt-of-le-of-lt, mul-le-mul-left, mul-lt-mul-of-pos-right, mod-lt, mod-self, zero-mod, mod-eq-of-lt, mod-add-mod, add-mod-right}
 use native.Mathlib.Omega.{arith}
 use lib.Bits.{and-zero-l, and-zero-r}
-use lib.Count.{leading-of-zero}
-use lib.Pow.{pow-pos, pow-add, shr-le}
-use Rattle.words.specs.Words.{wordLimit, wordFields, lowOf, highOf, joinOf, sumOf, differenceOf, productOf, andOf, leftOf, rightOf, zerosOf}
+use lib.Count.{ones-le, leading-of-zero, leading-le}
+use lib.Pow.{pow-pos, pow-lt, pow-add, shr-le}
+use Rattle.words.specs.Words.{wordLimit, wordFields, lowOf, highOf, joinOf, sumOf, differenceOf, productOf, andOf, leftOf, rightOf, onesOf, zerosOf}
 
 -- A word comes back from its fields.
 pub join-halves : (w : ℕ) → joinOf (lowOf w) (highOf w) ≡ w
@@ -30,6 +30,13 @@ zero-and = and-zero-l
 pub and-zero : (a : ℕ) → andOf a 0 ≡ 0
 and-zero = and-zero-r
 
+-- The width of words is a word.
+width-word : (k : ℕ) → k < 2 ^ k
+width-word zero = pow-pos zero
+width-word (suc k) =
+    let h = width-word k in
+    let l : 2 ^ k < 2 ^ suc k = pow-lt {i = k} {j = suc k} (omega arith) in lt-of-le-of-lt h l
+
 module _ (k : ℕ) where
   -- what is taken modulo 2 ^ k is a word
   pub wrapped : (n : ℕ) → n % 2 ^ k < 2 ^ k
@@ -44,6 +51,13 @@ module _ (k : ℕ) where
   pub right-word : {a : ℕ} (b : ℕ) → a < 2 ^ k → rightOf k a b < 2 ^ k
   right-word {a} b h = lt-of-le-of-lt (shr-le a (b % k)) h
 
+  -- The counts of a word's ones and leading zeros are words.
+  pub ones-word : {a : ℕ} → a < 2 ^ k → onesOf a < 2 ^ k
+  ones-word {a} h = lt-of-le-of-lt (ones-le k a h) (width-word k)
+
+  pub zeros-word : (a : ℕ) → zerosOf k a < 2 ^ k
+  zeros-word a = lt-of-le-of-lt (leading-le k a) (width-word k)
+
   pub sum-comm : (a b : ℕ) → sumOf k a b ≡ sumOf k b a
   sum-comm a b = ap (λ (n : ℕ). n % 2 ^ k) (add-comm a b)
 
@@ -56,6 +70,16 @@ module _ (k : ℕ) where
 
   pub product-zero : (a : ℕ) → productOf k a 0 ≡ 0
   product-zero a = product-comm a 0 ∙ zero-product a
+
+  -- A sum and a difference that do not wrap are those of numbers.
+  pub sum-exact : (a b : ℕ) → a + b < 2 ^ k → sumOf k a b ≡ a + b
+  sum-exact a b h = mod-eq-of-lt h
+
+  pub difference-exact : (a b : ℕ) → b ≤ a → a < 2 ^ k → differenceOf k a b ≡ a - b
+  difference-exact a b l h =
+      let e : a + (2 ^ k - b) ≡ a - b + 2 ^ k = omega arith in
+      let w : a - b < 2 ^ k = omega arith in
+      ap (λ (n : ℕ). n % 2 ^ k) e ∙ (add-mod-right (a - b) (2 ^ k) ∙ mod-eq-of-lt w)
 
   -- Adding undoes subtracting.
   pub difference-sum : (a b : ℕ) → a < 2 ^ k → b < 2 ^ k → sumOf k (differenceOf k a b) b ≡ a

@@ -1,7 +1,8 @@
 // Words: the operators of document 01, and a word in the fields of 16 bits of a record or a term. The width stands in
 // this crate alone. No function has a `requires`.
 ghost use mathlib.Core.Path.{_≡_};
-ghost use Rattle.words.specs.Words.{width, lowOf, highOf, joinOf, sumOf, differenceOf, productOf, andOf, orOf, xorOf, leftOf, rightOf, onesOf, zerosOf};
+ghost use Prim.Native.Nat.{_%_};
+ghost use Rattle.words.specs.Words.{width, wordLimit, lowOf, highOf, joinOf, sumOf, differenceOf, productOf, andOf, orOf, xorOf, leftOf, rightOf, onesOf, zerosOf};
 
 pub type Word = u16;
 
@@ -39,6 +40,20 @@ pub fn join(first: u16, second: u16) -> Word
     ensures { λ r. ⌜ r ≡ joinOf first second ⌝ }
 {
     first
+}
+
+// A word as a number of four bytes.
+pub fn widen(n: Word) -> u32
+    ensures { λ r. ⌜ r ≡ n ⌝ }
+{
+    n as u32
+}
+
+// The word in a number of four bytes: its low bits.
+pub fn narrow(n: u32) -> Word
+    ensures { λ r. ⌜ r ≡ n % wordLimit ⌝ }
+{
+    ((n as Wide) % WORDS) as Word
 }
 
 // The sum, wrapped.

@@ -59,6 +59,18 @@ mod c {
             reading: *mut u8,
             reading_len: usize,
         ) -> u8;
+        pub fn desk_spans(
+            session: *const u8,
+            session_len: usize,
+            table: *const u8,
+            table_len: usize,
+            lows: *const u8,
+            lows_len: usize,
+            highs: *const u8,
+            highs_len: usize,
+            reports: *mut u32,
+            reports_len: usize,
+        ) -> u8;
     }
 }
 
@@ -155,6 +167,23 @@ pub fn run(
             store.len(),
             reading.as_mut_ptr(),
             reading.len(),
+        )
+    }
+}
+
+pub fn spans(session: &[u8], table: &[u8], lows: &[u8], highs: &[u8], reports: &mut [u32]) -> u8 {
+    unsafe {
+        c::desk_spans(
+            session.as_ptr(),
+            session.len(),
+            table.as_ptr(),
+            table.len(),
+            lows.as_ptr(),
+            lows.len(),
+            highs.as_ptr(),
+            highs.len(),
+            reports.as_mut_ptr(),
+            reports.len(),
         )
     }
 }

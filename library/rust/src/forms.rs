@@ -13,6 +13,7 @@ pub const INPUTS: usize = 16 * INPUT;
 /// The inputs, then the count of terms and what else the session holds.
 pub const SESSION: usize = COUNT + 10;
 pub const COUNT: usize = INPUTS;
+pub const ASSERTED: usize = COUNT + 4;
 pub const HALTED: usize = COUNT + 8;
 
 pub const NUMBERS: usize = 16 * WORD;
@@ -21,3 +22,6 @@ pub const ANSWER: usize = 10;
 
 /// What was read, and its number, each as a word.
 pub const READING: usize = 2 * WORD;
+
+/// Sort, low and high, each as a number of a list.
+pub const REPORT: usize = 3;

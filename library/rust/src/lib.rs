@@ -1,10 +1,11 @@
 //! The desk for Rust: a session over a table, the rules that are evaluated in it, the readings of their results under
-//! sixteen numbers, and plain runs. Byte forms stay inside; `exports` has the functions over them.
+//! sixteen numbers, what they can be within spans, and plain runs. Byte forms stay inside; `exports` has the functions over
+//! them.
 
 pub mod exports;
 pub mod forms;
 
-use forms::{Word, ANSWER, COUNT, INPUT, READING, SESSION, WORD};
+use forms::{Word, ANSWER, ASSERTED, COUNT, INPUT, READING, REPORT, SESSION, WORD};
 
 /// An input of a session.
 #[derive(Clone, Copy, Debug, PartialEq, Eq)]
@@ -15,8 +16,8 @@ pub enum Input {
     FreeWord,
 }
 
-/// Refused, by document 01's number. It is never 255, the library's own for a form of another length: every form is lent
-/// with its length.
+/// Refused, by the number of document 01 or 02. It is never 255, the library's own for a form of another length: every
+/// form is lent with its length.
 #[derive(Clone, Copy, Debug, PartialEq, Eq)]
 pub struct Refusal(pub u8);
 
@@ -45,6 +46,21 @@ pub enum Reading {
     Procedure(Word),
     Abort,
     Error,
+}
+
+/// What a term may read as while every free word lies in its span: truths, a word from low to high, or, where its kind is
+/// open, anything.
+#[derive(Clone, Copy, Debug, PartialEq, Eq)]
+pub enum Report {
+    Open,
+    Truth {
+        may_be_false: bool,
+        may_be_true: bool,
+    },
+    Word {
+        low: Word,
+        high: Word,
+    },
 }
 
 /// A session and its table.
@@ -117,6 +133,34 @@ impl Desk {
             &mut form,
         ))?;
         Ok(reading(form))
+    }
+
+    /// A report for each term, given the least and the most that each free word, a moisture head, can be; the lows and highs
+    /// of other inputs are ignored. A low above its high is refused by 17.
+    pub fn spans(&self, lows: &[Word; 16], highs: &[Word; 16]) -> Result<Vec<Report>, Refusal> {
+        let mut list = vec![0; REPORT * usize::from(self.count())];
+        accepted(exports::spans(
+            &self.session,
+            &self.table,
+            &words(lows),
+            &words(highs),
+            &mut list,
+        ))?;
+        Ok(list.chunks_exact(REPORT).map(report).collect())
+    }
+
+    /// Whether the gin may be told that no reading within these spans errs: that under no numbers within them does reading
+    /// the last accepted answer give an error, nor does running the accepted rules in turn. A desk keeps its session from
+    /// the opening on, so that this follows where the report of T can only be true (theorem no-reading-errs in
+    /// `include/desk.h`). Where it gives false, a reading may err, but none need to.
+    pub fn never_errs(&self, lows: &[Word; 16], highs: &[Word; 16]) -> Result<bool, Refusal> {
+        let reports = self.spans(lows, highs)?;
+        let asserted = usize::from(two(&self.session, ASSERTED));
+        let only_true = Report::Truth {
+            may_be_false: false,
+            may_be_true: true,
+        };
+        Ok(reports[asserted] == only_true)
     }
 
     /// How many terms the table holds.
@@ -206,5 +250,20 @@ fn reading(form: [u8; READING]) -> Reading {
         7 => Reading::Procedure(number),
         8 => Reading::Abort,
         _ => Reading::Error,
+    }
+}
+
+fn report(numbers: &[u32]) -> Report {
+    let (low, high) = (numbers[1], numbers[2]);
+    match numbers[0] {
+        1 => Report::Truth {
+            may_be_false: low == 0,
+            may_be_true: high == 1,
+        },
+        2 => Report::Word {
+            low: low as Word,
+            high: high as Word,
+        },
+        _ => Report::Open,
     }
 }

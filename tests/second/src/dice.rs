@@ -2,6 +2,7 @@
 
 use crate::records::Record;
 use crate::session::Input;
+use crate::spans::Spans;
 use crate::words::{halves, Word, WIDTH};
 
 pub fn record(kind: u8, op: u8, a: u16, b: u16, c: u16) -> Record {
@@ -106,6 +107,44 @@ impl Dice {
             2 => self.below(bound) as Word,
             _ => self.word(),
         })
+    }
+
+    /// Lows and highs that 17 lets pass: those of an input that is no free word are any.
+    pub fn spans(&mut self, inputs: &[Input; 16]) -> Spans {
+        let widest = self.pick(&[0, 1, 8, 300, u64::from(Word::MAX)]);
+        let mut spans = Spans {
+            lows: std::array::from_fn(|_| self.word()),
+            highs: std::array::from_fn(|_| self.word()),
+        };
+        for at in (0..16).filter(|&at| inputs[at].kind == 3) {
+            let width = self.below(widest + 1) as Word;
+            spans.highs[at] = spans.lows[at].saturating_add(width);
+        }
+        spans
+    }
+
+    /// Lows and highs of which a few are refused by 17.
+    pub fn any_spans(&mut self, inputs: &[Input; 16]) -> Spans {
+        let mut spans = self.spans(inputs);
+        if self.below(10) == 0 {
+            let at = self.below(16) as usize;
+            spans.lows[at] = spans.highs[at].saturating_add(1);
+        }
+        spans
+    }
+
+    /// Numbers that 13 lets pass, each free word's in its span and often at an end of it.
+    pub fn numbers_in(&mut self, inputs: &[Input; 16], spans: &Spans) -> [Word; 16] {
+        let any = self.numbers(inputs);
+        std::array::from_fn(|at| match inputs[at].kind {
+            3 => self.word_in(spans.lows[at], spans.highs[at]),
+            _ => any[at],
+        })
+    }
+
+    fn word_in(&mut self, low: Word, high: Word) -> Word {
+        let within = low + self.below(u64::from(high - low) + 1) as Word;
+        self.pick(&[low, high, within])
     }
 
     fn place(&mut self, bindings: u16) -> u16 {

@@ -9,6 +9,7 @@ mod records;
 mod rules;
 mod run;
 mod session;
+mod spans;
 mod state;
 mod terms;
 pub mod text;
@@ -17,10 +18,11 @@ mod words;
 pub use evaluate::{evaluate, Answer};
 pub use opening::open;
 pub use print::print;
-pub use read::{read, ResultOf};
+pub use read::{read, read_all, ResultOf};
 pub use records::{records, Record};
 pub use run::run;
 pub use session::{Input, Session};
+pub use spans::{spans, Report, Span, Spans, Truths};
 pub use words::{Word, WIDTH, WORD_BYTES};
 
 /// What reading or a plain run answers. A procedure is its record number.

@@ -49,6 +49,13 @@ fn attempt(
     })
 }
 
+/// What every term reads as, under numbers that 13 lets pass; a binding, which is no value, reads as false.
+pub fn read_all(session: &Session, table: &[u8], numbers: &[Word; 16]) -> Result<Vec<Outcome>, u8> {
+    let fitted = fit(session, table)?;
+    let readings = read_terms(fitted.factory.terms(), numbers);
+    Ok(readings.into_iter().map(outcome).collect())
+}
+
 fn result_fits(factory: &Factory, result: &ResultOf) -> bool {
     let is_value = |number| number < factory.count() && factory.sort(number) != Sort::Binding;
     is_truth(factory, result.s)

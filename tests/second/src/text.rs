@@ -1,6 +1,7 @@
-//! How the vector files write inputs, numbers and bytes.
+//! How the vector files write inputs, numbers, spans and bytes.
 
 use crate::session::Input;
+use crate::spans::Spans;
 
 pub fn input(field: &str) -> Option<Input> {
     let (kind, value) = field.split_once(':')?;
@@ -13,6 +14,17 @@ pub fn input(field: &str) -> Option<Input> {
 pub fn sixteen<T>(fields: &[&str], parse: impl Fn(&str) -> Option<T>) -> Option<[T; 16]> {
     let parsed: Option<Vec<T>> = fields.iter().map(|field| parse(field)).collect();
     parsed?.try_into().ok()
+}
+
+pub fn spans(fields: &[&str]) -> Option<Spans> {
+    let ends = sixteen(fields, |field| {
+        let (low, high) = field.split_once(':')?;
+        Some((low.parse().ok()?, high.parse().ok()?))
+    })?;
+    Some(Spans {
+        lows: ends.map(|(low, _)| low),
+        highs: ends.map(|(_, high)| high),
+    })
 }
 
 pub fn hex(text: &str) -> Option<Vec<u8>> {

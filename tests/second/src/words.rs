@@ -14,8 +14,11 @@ pub fn joined(low: u16, high: u16) -> Option<Word> {
     Word::try_from(u64::from(high) << 16 | u64::from(low)).ok()
 }
 
+pub const ADD: u8 = 1;
+pub const SUBTRACT: u8 = 2;
 pub const MULTIPLY: u8 = 3;
 pub const BITWISE_AND: u8 = 4;
+pub const LESS: u8 = 11;
 pub const IS_FALSE: u8 = 13;
 pub const IS_WORD: u8 = 14;
 pub const IS_PROCEDURE: u8 = 15;

@@ -39,7 +39,7 @@ fn filled(term: impl Fn(u16) -> Record) -> (Session, Vec<u8>) {
 }
 
 /// Guarded updates, rule after rule, until the table is full.
-fn updated() -> (Session, Vec<u8>) {
+pub fn updated() -> (Session, Vec<u8>) {
     let (mut session, mut table) = opened();
     for k in 3.. {
         match evaluate(&mut session, &mut table, &guarded_update(k), 9) {
@@ -51,13 +51,13 @@ fn updated() -> (Session, Vec<u8>) {
 }
 
 /// A chain of ors, each of the one before and the free truth.
-fn ors() -> (Session, Vec<u8>) {
+pub fn ors() -> (Session, Vec<u8>) {
     let first = opened().0.count;
     filled(|n| record(5, 34, if n == first { 2 } else { n - 1 }, 2, 0))
 }
 
 /// Words, and any two of them under each operator on two words.
-fn operators() -> (Session, Vec<u8>) {
+pub fn operators() -> (Session, Vec<u8>) {
     const WORDS: u16 = 29;
     const CODES: [u8; 10] = [1, 2, 3, 4, 5, 6, 7, 8, 11, 12];
     let first = opened().0.count;
@@ -71,7 +71,7 @@ fn operators() -> (Session, Vec<u8>) {
 }
 
 /// The procedures of all records of a rule, and of most of a second, in the environment of the opening.
-fn procedures() -> (Session, Vec<u8>) {
+pub fn procedures() -> (Session, Vec<u8>) {
     const RECORDS: u16 = 4_096;
     let first = opened().0.count;
     filled(|n| {

@@ -4,7 +4,9 @@
 use crate::desk;
 use crate::made::FALSE;
 use crate::tally::Tally;
-use second::{evaluate, open, read, run, Answer, Input, Outcome, ResultOf, Session, Word};
+use second::{
+    evaluate, open, read, run, spans, Answer, Input, Outcome, ResultOf, Session, Spans, Word,
+};
 
 /// Tests 4 to 7: a run on good inputs with an allowance of 0 goes no further than 8.
 pub fn second_rule_refusal(bytes: &[u8]) -> u8 {
@@ -43,8 +45,8 @@ pub fn compare_open(tally: &mut Tally, inputs: &[Input; 16], bytes: usize) -> u8
     };
     tally.saw("open", expected);
     tally.same("open", refusal, expected);
-    tally.same_bytes("open's table", &ours, &theirs);
-    tally.same_bytes("open's session", &session, &form);
+    tally.same_list("open's table", &ours, &theirs);
+    tally.same_list("open's session", &session, &form);
     refusal
 }
 
@@ -115,6 +117,39 @@ pub fn compare_read(
     tally.same("read", (refusal, reading), desk::outcome_bytes(outcome));
     tally.same("read's work is zero", ours.iter().all(|&n| n == 0), true);
     refusal
+}
+
+/// With a list of so many numbers; what is not written in it stays. Gives the desk's list too.
+pub fn compare_spans(
+    tally: &mut Tally,
+    session: &Session,
+    table: &[u8],
+    given: &Spans,
+    numbers: usize,
+) -> (u8, Vec<u32>) {
+    let mut ours = desk::unreported(numbers);
+    let refusal = desk::spans(
+        &desk::session_bytes(session),
+        table,
+        &desk::numbers_bytes(&given.lows),
+        &desk::numbers_bytes(&given.highs),
+        &mut ours,
+    );
+    let mut theirs = desk::unreported(numbers);
+    let expected = match spans(session, table, given, numbers / desk::REPORT) {
+        Ok(reports) => {
+            let reported = reports.into_iter().flat_map(desk::report_numbers);
+            for (place, number) in theirs.iter_mut().zip(reported) {
+                *place = number;
+            }
+            0
+        }
+        Err(refusal) => refusal,
+    };
+    tally.saw("spans", expected);
+    tally.same("spans", refusal, expected);
+    tally.same_list("spans' list", &ours, &theirs);
+    (refusal, ours)
 }
 
 pub fn result_of(answer: Answer) -> Option<ResultOf> {

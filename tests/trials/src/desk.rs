@@ -1,8 +1,8 @@
 //! The desk's exports, with the byte forms of what they take and give.
 
-pub use ::desk::exports::{evaluate, fits, open, read, rule_refusal, run};
-pub use ::desk::forms::{Place, ANSWER, HALTED, INPUT, INPUTS, READING, SESSION, WORD};
-use second::{Answer, Input, Outcome, ResultOf, Session, Word};
+pub use ::desk::exports::{evaluate, fits, open, read, rule_refusal, run, spans};
+pub use ::desk::forms::{Place, ANSWER, HALTED, INPUT, INPUTS, READING, REPORT, SESSION, WORD};
+use second::{Answer, Input, Outcome, Report, ResultOf, Session, Word};
 
 pub fn inputs_bytes(inputs: &[Input; 16]) -> Vec<u8> {
     let mut bytes = Vec::new();
@@ -76,4 +76,22 @@ pub fn outcome_bytes(outcome: Outcome) -> (u8, [u8; READING]) {
     bytes[0] = tag;
     bytes[WORD..].copy_from_slice(&number.to_le_bytes());
     (0, bytes)
+}
+
+/// A list of reports before a call: no report has such numbers, and no two places the same.
+pub fn unreported(numbers: usize) -> Vec<u32> {
+    (0xa5a5_0000..).take(numbers).collect()
+}
+
+/// Sort, low and high.
+pub fn report_numbers(report: Report) -> [u32; REPORT] {
+    match report {
+        Report::Open => [0, 0, 0],
+        Report::Truth(truths) => [
+            1,
+            u32::from(!truths.may_be_false),
+            u32::from(truths.may_be_true),
+        ],
+        Report::Word(span) => [2, u32::from(span.low), u32::from(span.high)],
+    }
 }

@@ -54,8 +54,8 @@ impl Pair {
         tally.saw("evaluate", expected);
         tally.same("evaluate", (refusal, given), (expected, wanted));
         let form = desk::session_bytes(&self.session);
-        tally.same_bytes("evaluate's session", &self.form, &form);
-        tally.same_bytes("evaluate's table", &self.ours, &self.theirs);
+        tally.same_list("evaluate's session", &self.form, &form);
+        tally.same_list("evaluate's table", &self.ours, &self.theirs);
         (refusal, answer)
     }
 }

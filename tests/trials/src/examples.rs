@@ -5,42 +5,50 @@ use crate::tally::Tally;
 use std::path::{Path, PathBuf};
 use std::process::Command;
 
-const PRINTED: &str = include_str!("../../../library/printed_case.txt");
+/// An example's name in either language, and its lines.
+type Example = (&'static str, &'static str);
+
+const EXAMPLES: [Example; 2] = [
+    (
+        "printed_case",
+        include_str!("../../../library/printed_case.txt"),
+    ),
+    ("spans", include_str!("../../../library/spans.txt")),
+];
 
 pub fn all(tally: &mut Tally) {
     let here = Path::new(env!("CARGO_MANIFEST_DIR"));
     let (root, built) = (here.join("../.."), here.join("target/library"));
     std::fs::create_dir_all(&built).expect("a folder for the examples");
-    let programs = [
-        ("the example in Rust", in_rust(&root, &built)),
-        ("the example in C", in_c(&root, &built)),
-    ];
-    for (what, program) in programs {
-        let lines = printed(Command::new(program));
-        tally.same(
-            &format!("{what}: its lines"),
-            lines.lines().count(),
-            PRINTED.lines().count(),
-        );
-        for (given, wanted) in lines.lines().zip(PRINTED.lines()) {
-            tally.same(what, given, wanted);
-        }
+    for (name, wanted) in EXAMPLES {
+        let rust = printed(Command::new(in_rust(name, &root, &built)));
+        prints(tally, &format!("{name} in Rust"), &rust, wanted);
+        let c = printed(Command::new(in_c(name, &root, &built)));
+        prints(tally, &format!("{name} in C"), &c, wanted);
     }
 }
 
-fn in_rust(root: &Path, built: &Path) -> PathBuf {
+fn prints(tally: &mut Tally, what: &str, given: &str, wanted: &str) {
+    let lines = [given, wanted].map(|text| text.lines().count());
+    tally.same(&format!("{what}: its lines"), lines[0], lines[1]);
+    for (given, wanted) in given.lines().zip(wanted.lines()) {
+        tally.same(what, given, wanted);
+    }
+}
+
+fn in_rust(name: &str, root: &Path, built: &Path) -> PathBuf {
     let cargo = std::env::var("CARGO").unwrap_or_else(|_| "cargo".to_string());
     let mut build = Command::new(cargo);
     build.args(["build", "--release", "--offline", "--quiet", "--example"]);
-    build.args(["printed_case", "--manifest-path"]);
+    build.args([name, "--manifest-path"]);
     build.arg(root.join("library/rust/Cargo.toml"));
     build.arg("--target-dir").arg(built);
     printed(build);
-    built.join("release/examples/printed_case")
+    built.join("release/examples").join(name)
 }
 
-fn in_c(root: &Path, built: &Path) -> PathBuf {
-    let program = built.join("printed_case");
+fn in_c(name: &str, root: &Path, built: &Path) -> PathBuf {
+    let program = built.join(name);
     let mut build = Command::new("cc");
     build.args([
         "-std=c11",
@@ -51,7 +59,7 @@ fn in_c(root: &Path, built: &Path) -> PathBuf {
         "-Werror",
     ]);
     build.arg("-I").arg(root.join("include"));
-    build.arg(root.join("library/c/printed_case.c"));
+    build.arg(root.join("library/c").join(name).with_extension("c"));
     build.arg(root.join("target/staticlib/libdesk.a"));
     build.arg("-o").arg(&program);
     printed(build);

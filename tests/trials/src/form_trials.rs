@@ -7,6 +7,9 @@ use crate::tally::Tally;
 use second::dice::{record, rule};
 use second::ResultOf;
 
+/// A list of reports that is long enough.
+const REPORTS: usize = 180;
+
 const WRONG_LENGTH: u8 = 255;
 
 pub fn all(tally: &mut Tally) {
@@ -21,6 +24,7 @@ pub fn all(tally: &mut Tally) {
         zeros(tally, &good, other);
         marks(tally, &good, other);
     }
+    session_bytes(tally, &good);
     orders(tally, &good);
 }
 
@@ -37,6 +41,9 @@ struct Lent {
     work: Vec<Place>,
     store: Vec<u8>,
     reading: Vec<u8>,
+    lows: Vec<u8>,
+    highs: Vec<u8>,
+    reports: Vec<u32>,
 }
 
 /// The number that an export answers, and whether a refused call left what it was lent as it was, but for a work list and
@@ -48,12 +55,13 @@ fn answers(tally: &mut Tally, what: &str, told: Told, number: u8) {
     tally.same(what, told, (number, true));
 }
 
-const CALLS: [(&str, Call); 5] = [
+const CALLS: [(&str, Call); 6] = [
     ("open", Lent::open),
     ("fits", Lent::fits),
     ("evaluate", Lent::evaluate),
     ("read", Lent::read),
     ("run", Lent::run),
+    ("spans", Lent::spans),
 ];
 
 impl Lent {
@@ -76,6 +84,9 @@ impl Lent {
             work: vec![9; 60],
             store: vec![9; 200],
             reading: UNREAD.to_vec(),
+            lows: desk::numbers_bytes(&[7; 16]),
+            highs: desk::numbers_bytes(&[7; 16]),
+            reports: desk::unreported(REPORTS),
         }
     }
 
@@ -97,6 +108,9 @@ impl Lent {
             lent.result[6] = 2;
             lent.work.clear();
             lent.store.clear();
+            // input 1 is the free word
+            lent.lows[WORD] = 8;
+            lent.reports.clear();
         })
     }
 
@@ -157,6 +171,18 @@ impl Lent {
             number
         })
     }
+
+    fn spans(&self) -> Told {
+        self.call(|lent| {
+            desk::spans(
+                &lent.session,
+                &lent.table,
+                &lent.lows,
+                &lent.highs,
+                &mut lent.reports,
+            )
+        })
+    }
 }
 
 /// Every length from 0 to 99 but one.
@@ -173,7 +199,13 @@ fn lengths(tally: &mut Tally, good: &Lent, lent: &Lent) {
     };
     for length in other_lengths(good.session.len()) {
         let other = lent.but(|lent| lent.session.resize(length, 0));
-        let calls: [Call; 4] = [Lent::open, Lent::fits, Lent::evaluate, Lent::read];
+        let calls: [Call; 5] = [
+            Lent::open,
+            Lent::fits,
+            Lent::evaluate,
+            Lent::read,
+            Lent::spans,
+        ];
         wrong(tally, "session's length", other, &calls);
     }
     for length in other_lengths(good.answer.len()) {
@@ -191,6 +223,12 @@ fn lengths(tally: &mut Tally, good: &Lent, lent: &Lent) {
     for length in other_lengths(good.reading.len()) {
         let other = lent.but(|lent| lent.reading.resize(length, 0xa5));
         wrong(tally, "reading's length", other, &[Lent::read, Lent::run]);
+    }
+    for length in other_lengths(good.lows.len()) {
+        let other = lent.but(|lent| lent.lows.resize(length, 0));
+        wrong(tally, "lows' length", other, &[Lent::spans]);
+        let other = lent.but(|lent| lent.highs.resize(length, 0));
+        wrong(tally, "highs' length", other, &[Lent::spans]);
     }
 }
 
@@ -233,6 +271,17 @@ fn misfit(tally: &mut Tally, what: &str, session: &Lent) {
     answers(tally, what, session.fits(), 3);
     answers(tally, what, session.evaluate(), 3);
     answers(tally, what, session.read(), 3);
+    answers(tally, what, session.spans(), 3);
+}
+
+/// Every other value of every byte of a session: the reports are refused where test 3 refuses it.
+fn session_bytes(tally: &mut Tally, good: &Lent) {
+    for at in 0..good.session.len() {
+        for other in 0..=255 {
+            let lent = good.but(|lent| lent.session[at] = other);
+            answers(tally, "a session's byte", lent.spans(), lent.fits().0);
+        }
+    }
 }
 
 /// What stands in a form is refused in the operation's order of tests.
@@ -262,4 +311,10 @@ fn orders(tally: &mut Tally, good: &Lent) {
     answers(tally, "run: then 4", numbered.run(), 4);
     let ruled = numbered.but(|lent| lent.rule.clone_from(&good.rule));
     answers(tally, "run: then 16", ruled.run(), 16);
+
+    answers(tally, "spans: 3 first", all.spans(), 3);
+    answers(tally, "spans: 3 of the table", unfitting.spans(), 3);
+    answers(tally, "spans: then 17", fitting.spans(), 17);
+    let spanned = fitting.but(|lent| lent.lows.clone_from(&good.lows));
+    answers(tally, "spans: then 15", spanned.spans(), 15);
 }

@@ -1,7 +1,8 @@
 //! Compares the desk's exports and the printing program with the second evaluator, byte for byte, and the lines of the
 //! library's examples with those wanted. `faults` tries whether faults in the second evaluator are noticed by the trials at
 //! the limits; `limits` with the name of a group makes those of the group alone. `figures` takes times, counts terms and
-//! tries an evaluation in 1 MiB of stack; `bench`, `small`, `speed`, `terms` and `stack` with a number of KiB are its parts.
+//! tries an evaluation in 1 MiB of stack; `bench`, `small`, `speed`, `terms`, `spans` and `stack` with a number of KiB are its
+//! parts.
 
 mod bench;
 mod choices;
@@ -11,6 +12,7 @@ mod evaluations;
 mod examples;
 mod faults;
 mod form_trials;
+mod kept;
 mod limits;
 mod made;
 mod needs;
@@ -20,6 +22,8 @@ mod rules;
 mod run_trials;
 mod session_trials;
 mod small;
+mod span_speed;
+mod span_trials;
 mod speed;
 mod stack;
 mod tally;
@@ -37,12 +41,14 @@ fn main() {
             small::run();
             speed::run();
             speed::terms();
+            span_speed::run();
             return stack::run(1_024);
         }
         ["bench"] => return bench::run(),
         ["small"] => return small::run(),
         ["speed"] => return speed::run(),
         ["terms"] => return speed::terms(),
+        ["spans"] => return span_speed::run(),
         ["stack", kibibytes] => return stack::run(kibibytes.parse().expect("a number")),
         ["faults"] => return faults::run(),
         ["limits", group] => return tell(&limits::group(group).expect("a group of limits")),

@@ -113,31 +113,36 @@ fn damaged_tables(tally: &mut Tally) {
     }
 }
 
-/// Every field of a session set to numbers about its bounds.
 fn damaged_sessions(tally: &mut Tally) {
     let (good, table) = small_session();
+    for session in other_sessions(good) {
+        compare_fits(tally, &session, &table);
+    }
+}
+
+/// Every field of a session set to numbers about its bounds.
+pub fn other_sessions(good: Session) -> Vec<Session> {
+    let halted = !good.halted;
+    let mut sessions = vec![Session { halted, ..good }];
     for n in (0..=70).chain([999, 1_000, 1_001, 8_192, 65_535]) {
-        compare_fits(tally, &Session { count: n, ..good }, &table);
-        compare_fits(tally, &Session { s: n, ..good }, &table);
-        compare_fits(tally, &Session { t: n, ..good }, &table);
-        compare_fits(
-            tally,
-            &Session {
+        sessions.extend([
+            Session { count: n, ..good },
+            Session { s: n, ..good },
+            Session { t: n, ..good },
+            Session {
                 accepted: n,
                 ..good
             },
-            &table,
-        );
-        let halted = !good.halted;
-        compare_fits(tally, &Session { halted, ..good }, &table);
+        ]);
     }
     for at in 0..16 {
         for kind in 0..6 {
             for value in [0, 1, 2, 7] {
                 let mut session = good;
                 session.inputs[at] = Input { kind, value };
-                compare_fits(tally, &session, &table);
+                sessions.push(session);
             }
         }
     }
+    sessions
 }

@@ -49,8 +49,29 @@ fn now() -> f64 {
     time.seconds as f64 * 1e3 + time.nanoseconds as f64 / 1e6
 }
 
-/// Prints the least times of the desk and of the second evaluator, which take turns, over so many runs in a turn. Each
-/// turn works on its own copy, which is made before.
+/// A piece of work that is timed, on a copy of where it starts.
+pub type Work<'a, T> = &'a mut dyn FnMut(&mut T);
+
+/// The least time of each work, of so many runs in a turn; the works take turns. Each turn works on its own copy, which is
+/// made before.
+pub fn least_times<T: Clone, const N: usize>(
+    runs: usize,
+    start: &T,
+    mut works: [Work<T>; N],
+) -> [f64; N] {
+    let mut best = [f64::MAX; N];
+    for _ in 0..100 {
+        for (best, work) in best.iter_mut().zip(&mut works) {
+            let mut copy = start.clone();
+            let begun = now();
+            work(black_box(&mut copy));
+            *best = best.min((now() - begun) / runs as f64);
+        }
+    }
+    best
+}
+
+/// Prints the times of the desk and of the second evaluator.
 pub fn compare<T: Clone>(
     what: &str,
     runs: usize,
@@ -58,17 +79,7 @@ pub fn compare<T: Clone>(
     mut desk: impl FnMut(&mut T),
     mut second: impl FnMut(&mut T),
 ) {
-    let mut best = [f64::MAX; 2];
-    for _ in 0..100 {
-        let works: [&mut dyn FnMut(&mut T); 2] = [&mut desk, &mut second];
-        for (best, work) in best.iter_mut().zip(works) {
-            let mut copy = start.clone();
-            let begun = now();
-            work(black_box(&mut copy));
-            *best = best.min((now() - begun) / runs as f64);
-        }
-    }
-    let [desk, second] = best;
+    let [desk, second] = least_times(runs, start, [&mut desk, &mut second]);
     let ratio = desk / second;
     println!("| {what} | {desk:.4} | {second:.4} | {ratio:.2} |");
 }
@@ -76,9 +87,9 @@ pub fn compare<T: Clone>(
 /// A session in its two forms, with its table.
 #[derive(Clone)]
 pub struct Start {
-    session: Session,
+    pub session: Session,
     form: Vec<u8>,
-    table: Vec<u8>,
+    pub table: Vec<u8>,
 }
 
 impl Start {
@@ -133,10 +144,10 @@ fn made(start: &Start, rules: &[Vec<u8>]) -> usize {
 }
 
 /// Rules, each with a session of its own.
-struct Randoms {
-    what: String,
-    rules: Vec<Vec<u8>>,
-    starts: Vec<Start>,
+pub struct Randoms {
+    pub what: String,
+    pub rules: Vec<Vec<u8>>,
+    pub starts: Vec<Start>,
 }
 
 impl Randoms {
@@ -167,7 +178,7 @@ impl Randoms {
 }
 
 /// Rules of about 50 records, on small tables and on large ones.
-fn random_rules() -> [Randoms; 2] {
+pub fn random_rules() -> [Randoms; 2] {
     let mut dice = Dice(0x50ee);
     let mut rules = Vec::new();
     while rules.len() < 200 {

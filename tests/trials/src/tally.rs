@@ -36,8 +36,8 @@ impl Tally {
         }
     }
 
-    /// Long byte strings, of which only the first place that differs is told.
-    pub fn same_bytes(&mut self, what: &str, desk: &[u8], second: &[u8]) {
+    /// Long lists, of which only the first place that differs is told.
+    pub fn same_list<T: PartialEq>(&mut self, what: &str, desk: &[T], second: &[T]) {
         self.comparisons += 1;
         if desk == second {
             return;

@@ -2,7 +2,8 @@
 
 use crate::compare::compare_open;
 use crate::tally::Tally;
-use crate::{evaluations, form_trials, limits, rule_trials, run_trials, session_trials, vectors};
+use crate::{evaluations, form_trials, limits, rule_trials, run_trials, session_trials};
+use crate::{span_trials, vectors};
 use second::dice::Dice;
 use second::{Input, Word};
 
@@ -14,6 +15,7 @@ pub fn all() -> Tally {
     session_trials::all(&mut tally);
     form_trials::all(&mut tally);
     evaluations::all(&mut tally);
+    span_trials::all(&mut tally);
     vectors::all(&mut tally);
     limits::all(&mut tally);
     for (operation, answers) in ANSWERS {
@@ -25,7 +27,7 @@ pub fn all() -> Tally {
 }
 
 /// Every answer that some trial must have had.
-const ANSWERS: [(&str, &[u8]); 6] = [
+const ANSWERS: [(&str, &[u8]); 7] = [
     ("open", &[0, 1, 2]),
     ("rule", &[0, 4, 5, 6, 7]),
     ("fits", &[0, 3]),
@@ -35,6 +37,7 @@ const ANSWERS: [(&str, &[u8]); 6] = [
         &[2, 4, 5, 6, 7, 8, 12, 13, 16, 101, 102, 107, 108, 109],
     ),
     ("read", &[3, 13, 14, 15, 101, 102, 107, 108, 109]),
+    ("spans", &[0, 3, 15, 17]),
 ];
 
 fn openings(tally: &mut Tally) {

@@ -1,17 +1,19 @@
 //! The vectors' cases through the desk. What they expect is checked on the second evaluator, by its program `vectors`.
 
-use crate::compare::{compare_open, compare_read, compare_run, result_of};
-use crate::desk::{word, INPUT, INPUTS, WORD};
+use crate::compare::{compare_open, compare_read, compare_run, compare_spans, result_of};
+use crate::desk::{word, INPUT, INPUTS, REPORT, WORD};
 use crate::evaluations::Pair;
 use crate::tally::Tally;
-use second::text::{hex, input, sixteen};
+use second::text::{hex, input, sixteen, spans};
 use second::{Answer, Input, ResultOf};
 
 const SESSIONS: &str = include_str!("../../vectors/sessions.txt");
+const SPANS: &str = include_str!("../../vectors/spans.txt");
 const PRINTS: &str = include_str!("../../vectors/print.txt");
 
 pub fn all(tally: &mut Tally) {
-    for case in SESSIONS.split("\n.\n").filter(|case| !case.is_empty()) {
+    let cases = [SESSIONS, SPANS].into_iter().flat_map(cases_of);
+    for case in cases {
         let replayed = session(tally, case);
         tally.same("a session is understood", replayed, Some(()));
     }
@@ -19,6 +21,10 @@ pub fn all(tally: &mut Tally) {
         let bytes = hex(line.trim()).expect("hexadecimal digits");
         print(tally, &bytes);
     }
+}
+
+fn cases_of(text: &str) -> impl Iterator<Item = &str> {
+    text.split("\n.\n").filter(|case| !case.is_empty())
 }
 
 /// A session's commands; the lines between them are what the vectors expect.
@@ -60,6 +66,14 @@ fn session(tally: &mut Tally, case: &str) -> Option<()> {
                 let rule = hex(&rule.concat())?;
                 let (allowance, store) = (allowance.parse().ok()?, store.parse().ok()?);
                 compare_run(tally, &inputs, &numbers, &rule, allowance, store);
+            }
+            "spans" => {
+                let (list, ends) = fields.split_first()?;
+                let Pair {
+                    session, theirs, ..
+                } = pair.as_ref()?;
+                let numbers = REPORT * list.parse::<usize>().ok()?;
+                compare_spans(tally, session, theirs, &spans(ends)?, numbers);
             }
             _ => continue,
         }

@@ -6,7 +6,7 @@ use Prim.Native.Nat.{_-_, _≤_}
 use lib.ListN.{length}
 use native.Mathlib.Omega.{arith}
 use Rattle.reader.specs.Reader.{Reads}
-use Rattle.reader.proofs.Work.{holds-start, holds-next, holds-end}
+use Rattle.reader.proofs.Work.{holds-start, reads-next, holds-end}
 use Rattle.reader.proofs.fill.Statement.{statement}
 use Rattle.reader.proofs.fill.Tie as tie
 
@@ -22,7 +22,8 @@ loop-holds c = ((search needs, refl), holds-start _ _)
 loop-again : tie.Need-loop-again Inv-loop μ-loop
 loop-again c = (
   search needs,
-  holds-next
+  reads-next
+      _
       _
       (c .before .before .before .before .before .before .before .before .before .before .loop .inv .1)
       (omega arith)

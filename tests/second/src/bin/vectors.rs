@@ -1,8 +1,9 @@
 //! Checks every answer of the vector files.
 
-use second::text::{hex, input, sixteen};
+use second::text::{self, hex, input, sixteen};
 use second::{
-    evaluate, open, print, read, records, run, Answer, Input, Outcome, ResultOf, Session,
+    evaluate, open, print, read, records, run, spans, Answer, Input, Outcome, Report, ResultOf,
+    Session,
 };
 use std::path::{Path, PathBuf};
 use std::process::ExitCode;
@@ -31,9 +32,13 @@ fn folder() -> PathBuf {
 fn check(folder: &Path) -> Result<bool, String> {
     let sessions = cases(&folder.join("sessions.txt"))?;
     let prints = cases(&folder.join("print.txt"))?;
+    let spans = cases(&folder.join("spans.txt"))?;
     let mut wrong = Vec::new();
     for case in &sessions {
         wrong.extend(difference(case, replay_session(case)));
+    }
+    for case in &spans {
+        wrong.extend(difference(case, replay_spans(case)));
     }
     for case in &prints {
         wrong.extend(difference(case, replay_print(case)));
@@ -42,9 +47,10 @@ fn check(folder: &Path) -> Result<bool, String> {
         println!("{text}");
     }
     println!(
-        "vectors: {} sessions, {} prints, {} wrong",
+        "vectors: {} sessions, {} prints, {} sessions with spans, {} wrong",
         sessions.len(),
         prints.len(),
+        spans.len(),
         wrong.len()
     );
     Ok(wrong.is_empty())
@@ -113,32 +119,48 @@ struct Replay {
 
 /// The case again, each answer and the table's terms worked out anew.
 fn replay_session(case: &Case) -> Option<Vec<String>> {
-    let mut replay = Replay {
-        inputs: [Input::default(); 16],
-        table: Vec::new(),
-        session: None,
-        last: None,
-    };
-    let mut lines = Vec::new();
-    for line in &case.lines {
-        let mut fields = line.split_whitespace();
-        let command = fields.next()?;
-        let fields: Vec<&str> = fields.collect();
-        let answer = match command {
-            "open" => replay.open(&fields)?,
-            "eval" => replay.evaluate(&fields)?,
-            "read" => replay.read(&fields)?,
-            "run" => replay.run(&fields)?,
-            _ => continue,
-        };
-        lines.push(line.clone());
-        lines.push(answer);
-    }
+    let mut replay = Replay::new();
+    let mut lines = replay.answers(case)?;
     lines.extend(replay.terms());
     Some(lines)
 }
 
+/// The same of a case with spans, which ends without the terms.
+fn replay_spans(case: &Case) -> Option<Vec<String>> {
+    Replay::new().answers(case)
+}
+
 impl Replay {
+    fn new() -> Replay {
+        Replay {
+            inputs: [Input::default(); 16],
+            table: Vec::new(),
+            session: None,
+            last: None,
+        }
+    }
+
+    /// Each command with its answer, which takes a line, or of spans one for each term.
+    fn answers(&mut self, case: &Case) -> Option<Vec<String>> {
+        let mut lines = Vec::new();
+        for line in &case.lines {
+            let mut fields = line.split_whitespace();
+            let command = fields.next()?;
+            let fields: Vec<&str> = fields.collect();
+            let answer = match command {
+                "open" => vec![self.open(&fields)?],
+                "eval" => vec![self.evaluate(&fields)?],
+                "read" => vec![self.read(&fields)?],
+                "run" => vec![self.run(&fields)?],
+                "spans" => self.spans(&fields)?,
+                _ => continue,
+            };
+            lines.push(line.clone());
+            lines.extend(answer);
+        }
+        Some(lines)
+    }
+
     fn open(&mut self, fields: &[&str]) -> Option<String> {
         let (bytes, inputs) = fields.split_first()?;
         self.table = vec![0; bytes.parse().ok()?];
@@ -196,6 +218,16 @@ impl Replay {
         Some(told("ran", outcome))
     }
 
+    fn spans(&self, fields: &[&str]) -> Option<Vec<String>> {
+        let (list, ends) = fields.split_first()?;
+        let given = text::spans(ends)?;
+        let answer = spans(&self.session?, &self.table, &given, list.parse().ok()?);
+        Some(match answer {
+            Ok(reports) => (0..).zip(reports).map(reported).collect(),
+            Err(refusal) => vec![format!("refused {refusal}")],
+        })
+    }
+
     fn terms(&self) -> Vec<String> {
         let count = self.session.map_or(0, |session| session.count);
         records(&self.table)
@@ -203,6 +235,17 @@ impl Replay {
             .enumerate()
             .map(|(number, r)| format!("{number} {} {} {} {} {}", r.kind, r.op, r.a, r.b, r.c))
             .collect()
+    }
+}
+
+fn reported((number, report): (usize, Report)) -> String {
+    match report {
+        Report::Open => format!("{number} open"),
+        Report::Truth(truths) => {
+            let [no, yes] = [truths.may_be_false, truths.may_be_true].map(u8::from);
+            format!("{number} truth {no} {yes}")
+        }
+        Report::Word(span) => format!("{number} word {} {}", span.low, span.high),
     }
 }
 

@@ -14,6 +14,7 @@ mod orders;
 mod prints;
 mod readings;
 mod rule_records;
+mod spans;
 mod stores;
 mod terms;
 
@@ -24,7 +25,7 @@ use crate::tally::Tally;
 
 type Group = (&'static str, fn(&mut Tally));
 
-const GROUPS: [Group; 14] = [
+const GROUPS: [Group; 15] = [
     ("openings", openings::all),
     ("rule_records", rule_records::all),
     ("fitting", fitting::all),
@@ -36,6 +37,7 @@ const GROUPS: [Group; 14] = [
     ("folds", folds::all),
     ("operators", operators::all),
     ("readings", readings::all),
+    ("spans", spans::all),
     ("stores", stores::all),
     ("orders", orders::all),
     ("prints", prints::all),

@@ -1,0 +1,11 @@
+pub mod Operate
+pub mod Worded
+pub mod Covers
+pub mod Operations
+pub mod Truths
+pub mod Reports
+pub mod Free
+pub mod Ends
+pub mod Listed
+pub mod SpansHold
+pub mod NoReadingErrs

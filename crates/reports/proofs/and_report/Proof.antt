@@ -1,0 +1,13 @@
+-- `reports::and_report` meets its contract. Assumes nothing.
+use borrow.Author.Needs.{needs}
+use Rattle.notation.proofs.Follow.{values}
+use Rattle.semantics.specs.Spans.{andReport}
+use Rattle.reports.proofs.and_report.Statement.{statement}
+use Rattle.reports.proofs.and_report.Tie as tie
+
+pub and-report-spec : {M : Type 1} → statement M
+unfolding andReport
+and-report-spec =
+    tie.close
+    (tie.spec (λ c κs. search needs) (λ c κs. search needs) (λ c κs. search needs) (λ c κs. search needs) (λ c κs. search needs)
+    (λ c. search values depth 12) (λ c. search values depth 12))

@@ -1,0 +1,1 @@
+// Cases of the span vectors, computed by the definitions. No code.
