@@ -6,8 +6,9 @@
  * of a caller: every length and every byte is taken or refused. A call keeps no address and uses no memory but what is lent
  * and the stack; an evaluation at the largest depth takes up to 0.7 MiB of it.
  *
- * Each function answers 0, or the number of the refusal that came first. What is lent to a refused call is left as it
- * was, except that work list and store are zero on every return. Documents 01 and 02 have the numbers:
+ * Each function but desk_rule_turns, which answers a count, answers 0, or the number of the refusal that came first. What is
+ * lent to a refused call is left as it was, except that work list and store are zero on every return. Documents 01 and 02
+ * have the numbers:
  *
  *    1 table bytes not a multiple of 8, below 272 or above 65,536
  *    2 an input's kind or value; inputs that are not of their form, or of another length than 64
@@ -148,6 +149,12 @@ uint8_t desk_open(const uint8_t *inputs, size_t inputs_len,
 
 /* Tests a rule alone. Answers 4, 5, 6 or 7, or 0. */
 uint8_t desk_rule_refusal(const uint8_t *rule, size_t rule_len);
+
+/* Says how many turns the check of a rule's tree and places (6 and 7) takes: how often it takes up a record. That is at most
+ * once for each, however long the rule: once for every record of a rule that 4 to 6 take, also where 7 then refuses it; once
+ * for each up to the record at which the tree is found bad, of a rule that 6 refuses. Answers this count; 0 of a rule that 4
+ * or 5 refuses: its tree is not looked at. */
+uint16_t desk_rule_turns(const uint8_t *rule, size_t rule_len);
 
 /* Tests whether a session and a table fit. Answers 255 or 3, or 0. */
 uint8_t desk_fits(const uint8_t *session, size_t session_len,

@@ -1,5 +1,6 @@
 // The desk's library: the proved operations for callers in other languages, over numbers and byte slices. Each answer
-// is 0 or the number of a refusal. Numbers of two bytes have the low one first; so have words, which take two.
+// is 0 or the number of a refusal, but for `desk_rule_turns`, which counts. Numbers of two bytes have the low one first; so
+// have words, which take two.
 //   inputs    64 bytes: 16 times a kind, a zero and a word
 //   session   74 bytes: the inputs, then count, S, T and accepted rules, two bytes each, the halted mark and a zero
 //   numbers   32 bytes: 16 words
@@ -13,7 +14,10 @@
 // are zero on every return. No public function has a `requires`.
 use reader::Place;
 ghost use mathlib.Core.Path.{_≡_};
+ghost use Prim.Native.Nat.{_≤_};
+ghost use Rattle.semantics.specs.Records.{recordsIn};
 ghost use Rattle.semantics.specs.Rules.{ruleRefusalOf};
+ghost use Rattle.rules.specs.Turns.{ruleTurnsOf};
 ghost use Rattle.byte_opening.specs.Open.{deskOpen};
 ghost use Rattle.byte_fitting.specs.Fits.{deskFits};
 ghost use Rattle.byte_evaluating.specs.Evaluate.{deskEvaluate};
@@ -35,6 +39,14 @@ pub extern "C" fn desk_rule_refusal(rule: &[u8]) -> u8
     ensures { λ r. ⌜ r ≡ ruleRefusalOf (now (rule .entry)) ⌝ }
 {
     rules::refusal(rule)
+}
+
+// How many turns the pass over the tree and the places of a rule takes (the tests 6 and 7): at most one for each record.
+#[no_mangle]
+pub extern "C" fn desk_rule_turns(rule: &[u8]) -> u16
+    ensures { λ r. ⌜ r ≡ ruleTurnsOf (now (rule .entry)) ⌝ ∗ ⌜ r ≤ recordsIn (now (rule .entry)) ⌝ }
+{
+    rules::turns(rule)
 }
 
 // Test 3: 0 where a session and a table fit, else 3.

@@ -1,7 +1,7 @@
 -- Tests of many: of every number below another, as a pass over records makes them, and of every element of a list, by the elements' places.
 -- Assumes nothing.
 use mathlib.Core.Path.{_≡_, refl, sym}
-use mathlib.Core.Bool.{Bool, true, false, false≢true}
+use mathlib.Core.Bool.{Bool, true, false, _&&_, false≢true}
 use mathlib.Core.List.{List, [], _∷_}
 use Prim.Native.Nat.{ℕ, zero, suc, _+_, _-_, _<_, _≤_}
 use native.Mathlib.Numerals.{add-one}
@@ -9,12 +9,16 @@ use native.Mathlib.Omega.{arith}
 use lib.Dec.{eqb}
 use lib.ListN.{length, getD}
 use borrow.Author.Tests.{eqb-true, eqb-false}
-use Rattle.notation.specs.Notation.{pick, if_then_else_, upTo, every}
+use Rattle.notation.specs.Notation.{pick, if_then_else_, upTo, every, In, here, there}
 
--- what a passed condition says
+-- what passed conditions say
 pub pick-both : (x y : Bool) → pick x y false ≡ true → (x ≡ true) × (y ≡ true)
 pick-both true y h = (refl, h)
 pick-both false y h = absurd (false≢true h)
+
+pub and-both : (x y : Bool) → (x && y) ≡ true → (x ≡ true) × (y ≡ true)
+and-both true y h = (refl, h)
+and-both false y h = absurd (false≢true h)
 
 -- what holds of each number before i, and of i, holds of each before i + 1
 pub last : (P : ℕ → Type 0) (i : ℕ) → ((k : ℕ) → k < i → P k) → P i → (k : ℕ) → k < i + 1 → P k
@@ -88,3 +92,8 @@ module _ {A : Type 0} (f : A → Bool) (d : A) where
   every-at [] k h l = absurd (omega arith)
   every-at (x ∷ xs) zero h l = pick-both (f x) (every f xs) h .0
   every-at (x ∷ xs) (suc k) h l = every-at xs k (pick-both (f x) (every f xs) h .1) (omega arith)
+
+pub every-in : {A : Type 0} (f : A → Bool) {x : A} (xs : List A) → every f xs ≡ true → In x xs → f x ≡ true
+unfolding every if_then_else_
+every-in f (x ∷ xs) h here = pick-both (f x) (every f xs) h .0
+every-in f (y ∷ xs) h (there i) = every-in f xs (pick-both (f y) (every f xs) h .1) i

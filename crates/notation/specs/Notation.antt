@@ -1,5 +1,5 @@
--- How the definitions write a condition, a named value and a test of many. Code that is proved equal to a definition follows its text, and the laws
--- of proofs/Follow.antt and proofs/Every.antt are stated over these forms. Assumes nothing.
+-- How the definitions write a condition, a named value, a test of many and an element of a list. Code that is proved equal to a definition
+-- follows its text, and the laws of proofs/Follow.antt and proofs/Every.antt are stated over these forms. Assumes nothing.
 use Prim.Native.Nat.{ℕ, zero, suc}
 use mathlib.Core.Bool.{Bool, true, false}
 use mathlib.Core.List.{List, [], _∷_}
@@ -42,3 +42,8 @@ upTo (suc n) f = if upTo n f then f n else false
 unfoldable pub every : {A : Type 0} → (A → Bool) → List A → Bool
 every f [] = true
 every f (x ∷ xs) = if f x then every f xs else false
+
+-- an element of a list
+pub data In {A : Type 0} (x : A) : List A → Type 0 where
+  here : {xs : List A} → In x (x ∷ xs)
+  there : {y : A} {xs : List A} → In x xs → In x (y ∷ xs)

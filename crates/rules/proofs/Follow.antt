@@ -1,7 +1,7 @@
 -- What code that went one way at a test has to show, beside the laws of notation: `&&` and `||`, lists of at most two, and the size of a
 -- rule. `tests` is the ruleset for `search`. Assumes nothing.
 use mathlib.Core.Path.{_≡_, refl, sym, _∙_}
-use mathlib.Core.Bool.{Bool, true, false, _&&_, _||_, true≢false, false≢true}
+use mathlib.Core.Bool.{Bool, true, false, _&&_, _||_, true≢false}
 use mathlib.Core.List.{List, [], _∷_}
 use Prim.Native.Nat.{ℕ, zero, suc, _≤_}
 use lib.Dec.{eqb, ltb}
@@ -32,11 +32,6 @@ module _ (x y : Bool) {z : Bool} where
   or-false h g = rw h g
 
 pub ruleset tests = (values, and-true, and-false, or-true, or-false, lt-ltb, le-ltb, eq-eqb, ne-eqb, not-true, not-false, called)
-
--- what a passed test says
-pub and-both : (x y : Bool) → (x && y) ≡ true → (x ≡ true) × (y ≡ true)
-and-both true y h = (refl, h)
-and-both false y h = absurd (false≢true h)
 
 -- ---- the first n of two
 

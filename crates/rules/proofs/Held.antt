@@ -5,9 +5,9 @@ use mathlib.Core.List.{List, [], _∷_}
 use Prim.Native.Nat.{ℕ, _+_}
 use lib.ListN.{set, take}
 use Rattle.notation.specs.Notation.{every}
-use Rattle.semantics.specs.Rules.{Part, toldOf}
+use Rattle.semantics.specs.Rules.{Part}
 use Rattle.rules.specs.declared.Children.{Children}
-use Rattle.rules.specs.Passes.{partOf, childrenOf, bumpedOf, markedOf}
+use Rattle.rules.specs.Passes.{partOf, childrenOf, bumpedOf, markedOf, toldOf}
 use Rattle.rules.proofs.Follow.{take-two, every-none, every-one, every-two}
 
 -- the children of a record are the first of the two that it holds

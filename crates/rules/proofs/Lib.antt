@@ -1,5 +1,7 @@
 pub mod Follow
 pub mod Held
 pub mod Trees
-pub mod Bindings
-pub mod Answers
+pub mod OneTurn
+pub mod Scopes
+pub mod Ways
+pub mod Pass

@@ -1,5 +1,5 @@
--- The tree test: what the list of marks holds, and that a pass which tests each record as it reaches it finds what the definition asks.
--- Children stand after their parents, so no later record has the one that is reached for a child. Assumes nothing.
+-- The tree test: what the list of marks holds, and that a pass which tests each record as it comes to it finds what the definition asks.
+-- Children stand after their parents, so no later record has the one that it comes to for a child. Assumes nothing.
 use mathlib.Core.Path.{_≡_, refl, sym, ap, _∙_}
 use mathlib.Core.Bool.{Bool, true, false}
 use mathlib.Core.List.{List, [], _∷_}
@@ -8,15 +8,16 @@ use native.Mathlib.Numerals.{add-one}
 use native.Mathlib.Omega.{arith}
 use lib.ListN.{length, getD, set, length-set}
 use lib.Seq.{set-out, getD-set-same, getD-set-other}
-use lib.Dec.{eqb, ltb}
-use borrow.Author.Tests.{eqb-true, eqb-false, eq-eqb, ne-eqb, ltb-true, not-true}
-use Rattle.notation.specs.Notation.{pick, if_then_else_, if_equals_then_else_, upTo, every}
-use Rattle.notation.proofs.Every.{pick-both, last, up-stop, up-make, up-all}
+use lib.Dec.{eqb}
+use borrow.Author.Tests.{eqb-true, eqb-false, eq-eqb, ne-eqb}
+use Rattle.notation.specs.Notation.{pick, if_equals_then_else_, upTo, every}
+use Rattle.notation.proofs.Every.{and-both, up-make, up-all}
 use Rattle.semantics.specs.declared.Record.{Record}
 use Rattle.semantics.specs.Records.{recordAt}
 use Rattle.semantics.specs.Rules.{Part, partsOf, insideOf, timesIn, timesBelow, onceOf, linkedOf}
+use Rattle.semantics.proofs.Scopes.{within}
 use Rattle.rules.specs.Passes.{bumpedOf, markedOf, Cleared}
-use Rattle.rules.proofs.Follow.{and-both}
+use Rattle.rules.specs.Turns.{standsOf}
 
 -- ---- the list of marks
 
@@ -75,80 +76,60 @@ Ordered s n i = every (insideOf i n) (partsOf (recordAt s i)) ≡ true
 
 -- children that are above i are none of the records up to i
 none-below : (i n k : ℕ) (cs : List Part) → k ≤ i → every (insideOf i n) cs ≡ true → timesIn k cs ≡ 0
-unfolding every insideOf timesIn if_then_else_ if_equals_then_else_
-none-below i n k [] l h = refl
-none-below i n k (c ∷ cs) l h =
-    let b = pick-both (insideOf i n c) (every (insideOf i n) cs) h in
-    let a : i < c .child = ltb-true i (c .child) (and-both _ (ltb (c .child) n) (b .0) .0) in
-    let e : eqb k (c .child) ≡ false = ne-eqb k (c .child) (λ q. omega arith) in
-    rw (e, none-below i n k cs l (b .1))
-
--- the records before i stand in the tree, so far as those before i say
-pub record Linked (s : List ℕ) (n i : ℕ) : Type 0 where
-  pub order : (k : ℕ) → k < i → Ordered s n k
-  pub once : (k : ℕ) → k < i → onceOf k (timesBelow s i k) ≡ true
-
-pub linked-start : (s : List ℕ) (n : ℕ) → Linked s n 0
-linked-start s n = record { order = λ k h. absurd (omega arith); once = λ k h. absurd (omega arith) }
-
-pub linked-next : (s : List ℕ) (n i : ℕ) → Linked s n i → Ordered s n i → onceOf i (timesBelow s i i) ≡ true → Linked s n (i + 1)
-unfolding timesBelow
-linked-next s n i l o w =
-    record {
-      order = last (λ k. Ordered s n k) i (l .order) o;
-      once = λ k h.
-          rw (add-one, none-below i n k (partsOf (recordAt s i)) (omega arith) o, add-0)
-          (last (λ j. onceOf j (timesBelow s i j) ≡ true) i (l .once) w k h);
-    }
+none-below i n k cs l h = go (timesIn k cs) refl
   where
-    add-0 : (x : ℕ) → x + 0 ≡ x
-    add-0 x = omega arith
+    go : (t : ℕ) → timesIn k cs ≡ t → t ≡ 0
+    go zero e = refl
+    go (suc t) e = let w = within k i n cs h (omega arith) .0 in absurd (omega arith)
 
--- at the end of the pass all stand as the definition asks
-pub linked-end : (s : List ℕ) (n i : ℕ) → Linked s n i → i ≤ n → n ≤ i → true ≡ upTo n (linkedOf s n)
-unfolding linkedOf
-linked-end s n i l a b =
-    let e : i ≡ n = omega arith in
-    let w : Linked s n n = rw e at l in
-    sym (up-make (linkedOf s n) n (λ k h. rw (w .order k h) (w .once k h)))
-
--- a record that fails its test when it is reached fails the definition's
-pub not-ordered : (s : List ℕ) (n i : ℕ) → i < n → every (insideOf i n) (partsOf (recordAt s i)) ≡ false → false ≡ upTo n (linkedOf s n)
-unfolding linkedOf
-not-ordered s n i h o = up-stop (linkedOf s n) i n h (rw o)
-
--- in a rule whose records all stand, counting on past record i finds it no more
-module _ (s : List ℕ) (n i : ℕ) (all : upTo n (linkedOf s n) ≡ true) where
-  order : (k : ℕ) → k < n → Ordered s n k
-  unfolding linkedOf
-  order k h = and-both _ _ (up-all (linkedOf s n) n all k h) .0
-
-  single : (k : ℕ) → k < n → onceOf k (timesBelow s n k) ≡ true
-  unfolding linkedOf
-  single k h = and-both (every (insideOf k n) (partsOf (recordAt s k))) _ (up-all (linkedOf s n) n all k h) .1
-
-  -- no later record has i for a child
-  still : (d : ℕ) → d + i ≤ n → timesBelow s (d + i) i ≡ timesBelow s i i
+-- where all are in order, counting on past record i finds it no more
+module _ (s : List ℕ) (n : ℕ) (order : (k : ℕ) → k < n → Ordered s n k) where
+  still : (i d : ℕ) → d + i ≤ n → timesBelow s (d + i) i ≡ timesBelow s i i
   unfolding timesBelow
-  still zero h = let e : zero + i ≡ i = omega arith in rw e
-  still (suc d) h =
+  still i zero h = let e : zero + i ≡ i = omega arith in rw e
+  still i (suc d) h =
       let e : suc d + i ≡ suc (d + i) = omega arith in
       let z = none-below (d + i) n i (partsOf (recordAt s (d + i))) (omega arith) (order (d + i) (omega arith)) in
-      let r = still d (omega arith) in
+      let r = still i d (omega arith) in
       rw (e, timesBelow) (omega arith)
 
-pub not-once : (s : List ℕ) (n i : ℕ) → i < n → onceOf i (timesBelow s i i) ≡ false → false ≡ upTo n (linkedOf s n)
-not-once s n i h w = go (upTo n (linkedOf s n)) refl
-  where
-    go : (b : Bool) → upTo n (linkedOf s n) ≡ b → false ≡ b
-    go false q = refl
-    go true q =
-        let e : n - i + i ≡ n = omega arith in
-        let r : timesBelow s n i ≡ timesBelow s i i = rw e at (still s n i q (n - i) (omega arith)) in
-        sym w ∙ rw (← r) (single s n i q i h)
+  counted : (i : ℕ) → i < n → timesBelow s n i ≡ timesBelow s i i
+  counted i l = let e : n - i + i ≡ n = omega arith in rw e at (still i (n - i) (omega arith))
 
--- the test of record i by its mark
-pub once-by : (s : List ℕ) (i : ℕ) {n : ℕ} {m : List ℕ} {b c : Bool}
+-- so the records stand, each by those before it, exactly if they are a tree
+module _ (s : List ℕ) (n : ℕ) where
+  stands-linked : upTo n (standsOf s n) ≡ true → upTo n (linkedOf s n) ≡ true
+  unfolding linkedOf standsOf
+  stands-linked h = up-make (linkedOf s n) n (λ k l. rw (order k l, counted s n order k l) (stand k l .1))
+    where
+      stand : (k : ℕ) → k < n → (Ordered s n k) × (onceOf k (timesBelow s k k) ≡ true)
+      stand k l = and-both _ (onceOf k (timesBelow s k k)) (up-all (standsOf s n) n h k l)
+
+      order : (k : ℕ) → k < n → Ordered s n k
+      order k l = stand k l .0
+
+  linked-stands : upTo n (linkedOf s n) ≡ true → upTo n (standsOf s n) ≡ true
+  unfolding linkedOf standsOf
+  linked-stands h = up-make (standsOf s n) n (λ k l. rw (order k l, ← counted s n order k l) (link k l .1))
+    where
+      link : (k : ℕ) → k < n → (Ordered s n k) × (onceOf k (timesBelow s n k) ≡ true)
+      link k l = and-both _ (onceOf k (timesBelow s n k)) (up-all (linkedOf s n) n h k l)
+
+      order : (k : ℕ) → k < n → Ordered s n k
+      order k l = link k l .0
+
+  pub tree-by-standing : upTo n (linkedOf s n) ≡ upTo n (standsOf s n)
+  tree-by-standing = go (upTo n (linkedOf s n)) (upTo n (standsOf s n)) refl refl
+    where
+      go : (x y : Bool) → upTo n (linkedOf s n) ≡ x → upTo n (standsOf s n) ≡ y → x ≡ y
+      go true y p q = sym (linked-stands p) ∙ q
+      go false true p q = sym p ∙ stands-linked q
+      go false false p q = refl
+
+-- ---- the tests of record i as the pass makes them
+
+-- by its mark
+once-by : (s : List ℕ) (i : ℕ) {n : ℕ} {m : List ℕ} {b c : Bool}
     → Counts n (timesBelow s i) m → i < n → b ≡ onceOf i (getD m i 0) → b ≡ c → onceOf i (timesBelow s i i) ≡ c
 unfolding onceOf
 once-by s i g o eb ec = rw (sym (low (timesBelow s i i)), ← g .is i o) (sym eb ∙ ec)
@@ -160,10 +141,17 @@ once-by s i g o eb ec = rw (sym (low (timesBelow s i i)), ← g .is i o) (sym eb
         go true q = eq-eqb (min 2 x) 1 (omega (arith, eqb-true x 1 q))
         go false q = ne-eqb (min 2 x) 1 (λ (e : min 2 x ≡ 1). eqb-false x 1 q (omega arith))
 
--- the test of record i by its children
-pub ordered-by : (s : List ℕ) (n i : ℕ) {x : Record} {cs : List Part} {b d : Bool}
+-- by its children
+ordered-by : (s : List ℕ) (n i : ℕ) {x : Record} {cs : List Part} {b d : Bool}
     → x ≡ recordAt s i → cs ≡ partsOf x → b ≡ every (insideOf i n) cs → b ≡ d → every (insideOf i n) (partsOf (recordAt s i)) ≡ d
 ordered-by s n i ex ec eb ed = rw (← ex, ← ec) (sym eb ∙ ed)
 
--- for the ways out within the pass
-pub ruleset trees = (not-ordered, not-once, once-by, ordered-by, not-true)
+module _ (s : List ℕ) (n i : ℕ) {x : Record} {cs : List Part} {b : Bool} (ex : x ≡ recordAt s i) (ec : cs ≡ partsOf x) (eb : b ≡ every (insideOf i n) cs) where
+  pub not-ordered : b ≡ false → standsOf s n i ≡ false
+  unfolding standsOf
+  not-ordered h = rw (ordered-by s n i ex ec eb h)
+
+  module _ {m : List ℕ} {c : Bool} (g : Counts n (timesBelow s i) m) (l : i < n) (h : b ≡ true) (eo : c ≡ onceOf i (getD m i 0)) where
+    pub once-so : {d : Bool} → c ≡ d → standsOf s n i ≡ d
+    unfolding standsOf
+    once-so k = rw (ordered-by s n i ex ec eb h) (once-by s i g l eo k)

@@ -1,1 +1,3 @@
 pub mod Passes
+pub mod Turns
+pub mod Scopes

@@ -1,5 +1,5 @@
--- What the functions of this crate hand to each other: a record's children in a struct, the marks of the tree test, lists of zeros, and
--- the answer of the pass for the tests 6 and 7. Assumes nothing.
+-- What the functions of this crate hand to each other: a record's children in a struct, the marks of the tree test, the counts of bindings,
+-- lists of zeros, and the number by which the pass for the tests 6 and 7 refuses. Assumes nothing.
 use Prim.Native.Nat.{ℕ, _+_, _≤_, min}
 use mathlib.Core.List.{List, [], _∷_}
 use mathlib.Core.Path.{_≡_}
@@ -31,6 +31,11 @@ bumpedOf m c = set m c (min 2 (getD m c 0 + 1))
 unfoldable pub markedOf : List Part → List ℕ → List ℕ
 markedOf [] m = m
 markedOf (c ∷ cs) m = markedOf cs (bumpedOf m (c .child))
+
+-- a record under d bindings tells each child its own
+unfoldable pub toldOf : ℕ → List Part → List ℕ → List ℕ
+toldOf d [] m = m
+toldOf d (c ∷ cs) m = toldOf d cs (set m (c .child) (d + c .more))
 
 -- a list with a zero for each of n records
 pub record Cleared (n : ℕ) (m : List ℕ) : Type 0 where

@@ -1,5 +1,6 @@
-// What is a rule: the tests 4 to 7 of document 01, in one pass over the records for test 5 and one for 6 and 7; and
-// test 8, of what it is evaluated with. Nothing is evaluated here, and nothing is kept. No public function has a `requires`.
+// What is a rule: the tests 4 to 7 of document 01, in one pass over the records for test 5 and one for 6 and 7, which
+// counts its turns; and test 8, of what it is evaluated with. Nothing is evaluated here, and nothing is kept. No public
+// function has a `requires`.
 use semantics::Record;
 use semantics::numbers::ABORT_RECORD;
 use semantics::numbers::ALLOWANCE_LIMIT;
@@ -28,11 +29,13 @@ ghost use lib.Dec.{ltb};
 ghost use lib.ListN.{set, take};
 ghost use Rattle.notation.specs.Notation.{upTo, every};
 ghost use Rattle.semantics.specs.Numbers.{recordLimit};
-ghost use Rattle.semantics.specs.Records.{recordAt};
+ghost use Rattle.semantics.specs.Records.{recordAt, recordsIn};
 ghost use Rattle.semantics.specs.Rules.{badRuleSize, usesOf, shapedOf, partsOf, insideOf, onceOf};
-ghost use Rattle.semantics.specs.Rules.{placesOf, toldOf, testsOf, ruleRefusalOf};
+ghost use Rattle.semantics.specs.Rules.{placesOf, testsOf, ruleRefusalOf};
 ghost use Rattle.semantics.specs.Evaluate.{badDepth};
-ghost use Rattle.rules.specs.Passes.{partOf, childrenOf, OneMore, bumpedOf, markedOf, Cleared, treeAndScopesOf};
+ghost use Rattle.rules.specs.Passes.{partOf, childrenOf, OneMore, bumpedOf, markedOf, toldOf, Cleared, treeAndScopesOf};
+ghost use Rattle.rules.specs.Turns.{turnsOf, testTurnsOf, ruleTurnsOf};
+ghost use Rattle.rules.specs.Scopes.{KeptInScope};
 
 // The record at which a child stands, and how many bindings it has more than its parent.
 struct Child {
@@ -47,11 +50,21 @@ struct Children {
     second: Child,
 }
 
+// What the tests 4 to 7 find of a rule: the number of the first that refuses it, 0 where none does; and how many turns the
+// pass for 6 and 7 took.
+struct Checked {
+    refusal: u8,
+    turns: u16,
+}
+
 // What `uses` answers where there is no such kind or op.
 const NO_SUCH: u8 = 4;
 
-// The lengths of a list that has a number for each record: of few records, and of the most. It is cleared whole.
+// The lengths of a list that has a number for each record: of few records, of more, and of the most. It is cleared whole,
+// which a short rule should not pay for the longest.
 const FEW: usize = 64;
+
+const MORE: usize = 512;
 
 const RECORDS: usize = RECORD_LIMIT as usize;
 
@@ -59,11 +72,14 @@ const RECORDS: usize = RECORD_LIMIT as usize;
 pub fn refusal(rule: &[u8]) -> u8
     ensures { λ r. ⌜ r ≡ ruleRefusalOf (now (rule .entry)) ⌝ }
 {
-    let l = rule.len();
-    if bad_size(l) {
-        return RULE_SIZE;
-    }
-    tests(rule, (l / 8) as u16)
+    check(rule).refusal
+}
+
+// How many turns the pass for the tests 6 and 7 takes on a rule: at most one for each record; none where 4 or 5 refuses it.
+pub fn turns(rule: &[u8]) -> u16
+    ensures { λ r. ⌜ r ≡ ruleTurnsOf (now (rule .entry)) ⌝ ∗ ⌜ r ≤ recordsIn (now (rule .entry)) ⌝ }
+{
+    check(rule).turns
 }
 
 // Test 8: an allowance outside 1 to 256.
@@ -76,13 +92,30 @@ pub fn bad_depth(allowance: u16) -> bool
     ALLOWANCE_LIMIT < allowance
 }
 
-// The number of the first test of 5 to 7 that refuses a rule of n records; 0 where none does.
-fn tests(rule: &[u8], n: u16) -> u8
+// The tests 4 to 7.
+fn check(rule: &[u8]) -> Checked
+    ensures { λ r. ⌜ r .refusal ≡ ruleRefusalOf (now (rule .entry)) ⌝ ∗ ⌜ r .turns ≡ ruleTurnsOf (now (rule .entry)) ⌝ }
+{
+    let l = rule.len();
+    if bad_size(l) {
+        return Checked {
+            refusal: RULE_SIZE,
+            turns: 0,
+        };
+    }
+    tests(rule, (l / 8) as u16)
+}
+
+// The tests 5 to 7 on a rule of n records.
+fn tests(rule: &[u8], n: u16) -> Checked
     requires { ⌜ n ≤ recordLimit ⌝ }
-    ensures { λ r. ⌜ r ≡ testsOf (now (rule .entry)) n ⌝ }
+    ensures { λ r. ⌜ r .refusal ≡ testsOf (now (rule .entry)) n ⌝ ∗ ⌜ r .turns ≡ testTurnsOf (now (rule .entry)) n ⌝ }
 {
     if !shapes(rule, n) {
-        return BAD_RECORD;
+        return Checked {
+            refusal: BAD_RECORD,
+            turns: 0,
+        };
     }
     tree_and_scopes(rule, n)
 }
@@ -160,14 +193,19 @@ fn uses(x: Record) -> u8
     NO_SUCH
 }
 
-// The number of the first test of 6 and 7 that refuses a rule of n records; 0 where neither does.
-fn tree_and_scopes(rule: &[u8], n: u16) -> u8
+// The tests 6 and 7 on a rule of n records.
+fn tree_and_scopes(rule: &[u8], n: u16) -> Checked
     requires { ⌜ n ≤ recordLimit ⌝ }
-    ensures { λ r. ⌜ r ≡ treeAndScopesOf (now (rule .entry)) n ⌝ }
+    ensures { λ r. ⌜ r .refusal ≡ treeAndScopesOf (now (rule .entry)) n ⌝ ∗ ⌜ r .turns ≡ turnsOf (now (rule .entry)) n n ⌝ }
 {
     if n as usize <= FEW {
         let mut marks: [u8; FEW] = [0; FEW];
         let mut bindings: [u16; FEW] = [0; FEW];
+        return tree_and_scopes_in(rule, n, &mut marks, &mut bindings);
+    }
+    if n as usize <= MORE {
+        let mut marks: [u8; MORE] = [0; MORE];
+        let mut bindings: [u16; MORE] = [0; MORE];
         return tree_and_scopes_in(rule, n, &mut marks, &mut bindings);
     }
     let mut marks: [u8; RECORDS] = [0; RECORDS];
@@ -175,29 +213,45 @@ fn tree_and_scopes(rule: &[u8], n: u16) -> u8
     tree_and_scopes_in(rule, n, &mut marks, &mut bindings)
 }
 
-// The tests 6 and 7 in one pass over the records, with a lent list for the marks and one for the bindings. Parents come
-// first, so when the pass reaches a record, all that have it for a child have marked it, and have told it its bindings;
-// record 0 has none. A place out of scope is only remembered, since a bad tree further on is refused before it.
-fn tree_and_scopes_in(rule: &[u8], n: u16, marks: &mut [u8], bindings: &mut [u16]) -> u8
+// The tests 6 and 7 in one pass over the records, with a lent list for the marks and one for the counts of bindings. Parents
+// come first, so when the pass reaches a record, all that have it for a child have marked it, and its parent has told it the
+// bindings in scope; record 0 has none. A place out of scope is only remembered, since a bad tree further on is refused
+// before it.
+fn tree_and_scopes_in(rule: &[u8], n: u16, marks: &mut [u8], bindings: &mut [u16]) -> Checked
     requires { ⌜ n ≤ recordLimit ⌝ ∗ ⌜ Cleared n (now marks) ⌝ ∗ ⌜ Cleared n (now bindings) ⌝ }
-    ensures { λ r. ⌜ r ≡ treeAndScopesOf (now (rule .entry)) n ⌝ }
+    ensures { λ r. ⌜ r .refusal ≡ treeAndScopesOf (now (rule .entry)) n ⌝ ∗ ⌜ r .turns ≡ turnsOf (now (rule .entry)) n n ⌝ ∗ ⌜ KeptInScope (now (rule .entry)) n (now (bindings .exit)) ⌝ }
 {
     let mut scoped = true;
+    let mut turns: u16 = 0;
     for i in 0..n {
+        turns = turns + 1;
         let x = records::record_at(rule, i);
-        let d = bindings[i as usize];
-        scoped = both(placed(x, d + INPUT_COUNT), scoped);
         let c = children_of(x);
         if !ordered(c, i, n) {
-            return BAD_TREE;
+            return Checked {
+                refusal: BAD_TREE,
+                turns,
+            };
         }
         if !once(i, marks[i as usize]) {
-            return BAD_TREE;
+            return Checked {
+                refusal: BAD_TREE,
+                turns,
+            };
         }
+        let d = bindings[i as usize];
+        scoped = both(placed(x, d + INPUT_COUNT), scoped);
         mark(marks, c);
         tell(bindings, c, d);
     }
-    if scoped { 0 } else { BAD_PLACE }
+    if scoped {
+        Checked { refusal: 0, turns }
+    } else {
+        Checked {
+            refusal: BAD_PLACE,
+            turns,
+        }
+    }
 }
 
 // The children of a record: a procedure's body; both parts of a let; the branches of an if.

@@ -42,7 +42,7 @@ unfolding Records.recordAt Records.fieldOf
 records = 0
 
 unfoldable rules : ℕ
-unfolding Rules.badRuleSize Rules.usesOf Rules.shapedOf Rules.partsOf Rules.insideOf Rules.timesIn Rules.timesBelow Rules.onceOf Rules.linkedOf Rules.placesOf Rules.toldOf Rules.bindingsBelow Rules.scopedOf Rules.testsOf Rules.ruleRefusalOf
+unfolding Rules.badRuleSize Rules.usesOf Rules.shapedOf Rules.partsOf Rules.insideOf Rules.timesIn Rules.timesBelow Rules.onceOf Rules.linkedOf Rules.placesOf Rules.moreIn Rules.parentBelow Rules.enteredOf Rules.inScopeAt Rules.scopedOf Rules.testsOf Rules.ruleRefusalOf
 rules = 0
 
 unfoldable terms : ℕ

@@ -1,7 +1,9 @@
 pub mod Fold
+pub mod Scopes
 pub mod Spans
 pub mod Fields
 pub mod Computing
 pub mod Instances
+pub mod ScopeInstances
 pub mod SpanInstances
 pub mod Lasting

@@ -4,12 +4,12 @@ use Prim.Native.Nat.{ℕ, zero, suc, _+_, _%_}
 use mathlib.Core.Bool.{Bool, true, false, not, _&&_, _||_}
 use mathlib.Core.List.{List, [], _∷_}
 use lib.Dec.{eqb, ltb}
-use lib.ListN.{getD, set, length, replicate}
+use lib.ListN.{length}
 use Rattle.notation.specs.Notation.{with, if_then_else_, if_equals_then_else_, if_below_then_else_, unless_then_else_, upTo, every}
 use Rattle.words.specs.Words.{wordFields}
 use Rattle.operators.specs.Operators.{operandsOf}
 use Rattle.semantics.specs.declared.Record.{Record}
-use Rattle.semantics.specs.Numbers.{datumRecord, variableRecord, procedureRecord, callRecord, operatorRecord, letRecord, ifRecord, abortRecord, errorRecord, wordDatum, isProcedureCode, inputCount, recordLimit, ruleBytes, ruleSize, badRecord, badTree, badPlace}
+use Rattle.semantics.specs.Numbers.{datumRecord, variableRecord, procedureRecord, callRecord, operatorRecord, letRecord, ifRecord, abortRecord, errorRecord, wordDatum, isProcedureCode, inputCount, ruleBytes, ruleSize, badRecord, badTree, badPlace}
 use Rattle.semantics.specs.Records.{recordAt, fieldOf, recordsIn}
 
 -- ---- 4: "rule bytes none, above 32,768 or not a multiple of 8"
@@ -88,19 +88,29 @@ placesOf x =
     if x .kind equals ifRecord then x .p ∷ [] else
     []
 
--- a record under d bindings tells its children theirs
-unfoldable pub toldOf : ℕ → List Part → List ℕ → List ℕ
-toldOf d [] m = m
-toldOf d (c ∷ cs) m = toldOf d cs (set m (c .child) (d + c .more))
+-- how many bindings record c has more than its parent, whose parts are given
+unfoldable pub moreIn : ℕ → List Part → ℕ
+moreIn c [] = 0
+moreIn c (p ∷ ps) = if c equals p .child then p .more else moreIn c ps
 
--- the bindings over each record, as the first n records tell; none over record 0
-unfoldable pub bindingsBelow : List ℕ → ℕ → List ℕ
-bindingsBelow s zero = replicate recordLimit 0
-bindingsBelow s (suc n) = with (bindingsBelow s n) λ m. toldOf (getD m n 0) (partsOf (recordAt s n)) m
+-- the parent of record c, among the first n records: the one that has it for a child; 0 where none has
+unfoldable pub parentBelow : List ℕ → ℕ → ℕ → ℕ
+parentBelow s zero c = 0
+parentBelow s (suc n) c = if timesIn c (partsOf (recordAt s n)) equals 0 then parentBelow s n c else n
+
+-- the bindings that are entered along the way from record 0 down to record c, through at most h parts: one for each procedure's body and each
+-- let's second part
+unfoldable pub enteredOf : List ℕ → ℕ → ℕ → ℕ
+enteredOf s zero c = 0
+enteredOf s (suc h) c = if c equals 0 then 0 else with (parentBelow s c c) λ p. enteredOf s h p + moreIn c (partsOf (recordAt s p))
+
+-- the bindings in scope at record c. A parent stands before its children, so the way to record c has at most c parts.
+unfoldable pub inScopeAt : List ℕ → ℕ → ℕ
+inScopeAt s c = enteredOf s c c
 
 -- "under d bindings input i is place d + i, for 16 inputs": the places of record i are in scope
 unfoldable pub scopedOf : List ℕ → ℕ → Bool
-scopedOf s i = with (getD (bindingsBelow s i) i 0) λ d. every (λ p. ltb p (d + inputCount)) (placesOf (recordAt s i))
+scopedOf s i = with (inScopeAt s i) λ d. every (λ p. ltb p (d + inputCount)) (placesOf (recordAt s i))
 
 -- ---- the first of 4 to 7 that refuses a rule; 0 where none does
 unfoldable pub testsOf : List ℕ → ℕ → ℕ

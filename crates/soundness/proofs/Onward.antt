@@ -5,20 +5,21 @@ use mathlib.Core.Bool.{Bool, true, false, _&&_}
 use mathlib.Core.List.{List, [], _∷_}
 use Prim.Native.Nat.{ℕ, suc, _+_, _≤_}
 use native.Mathlib.Omega.{arith}
-use lib.ListN.{length, getD-replicate}
+use lib.ListN.{length}
 use lib.Dec.{eqb}
 use Rattle.notation.specs.Notation.{pick, if_equals_then_else_}
 use Rattle.semantics.specs.declared.Term.{Term}
 use Rattle.semantics.specs.declared.Input.{Input}
 use Rattle.semantics.specs.declared.Result.{Result}
-use Rattle.semantics.specs.Numbers.{inputCount, recordLimit, depthSpent, constantTruth, constantWord, freeTruth}
+use Rattle.semantics.specs.Numbers.{inputCount, depthSpent, constantTruth, constantWord, freeTruth}
 use Rattle.semantics.specs.Records.{recordsIn}
-use Rattle.semantics.specs.Rules.{bindingsBelow, ruleRefusalOf}
+use Rattle.semantics.specs.Rules.{inScopeAt, ruleRefusalOf}
 use Rattle.semantics.specs.Steps.{settingOf, gave, refused}
 use Rattle.semantics.specs.States.{haltOf}
 use Rattle.semantics.specs.Evaluation.{evalOf}
 use Rattle.semantics.specs.Run.{Value, truth, word, Ended, gives, aborts, errs, spends, after, runOf, inputValue, inputsBound}
 use Rattle.semantics.specs.History.{ranOn}
+use Rattle.semantics.proofs.Scopes.{root-scope}
 use Rattle.typing.proofs.Formed.{never}
 use Rattle.typing.proofs.Does.{Fit}
 use Rattle.typing.proofs.Ruled.{tested, Ruled}
@@ -29,7 +30,7 @@ use Rattle.soundness.proofs.Held.{MeansBindings}
 use Rattle.soundness.proofs.Sim.{ends, on, afterSeen, on-after, on-off, on-live, ends-same, totalOf, Sim, sim-halt, sim-as}
 use Rattle.soundness.proofs.Readout.{Done, evaluation-at, evaluation-spent}
 use Rattle.soundness.proofs.Scope.{bound, Good, GoodValue, GoodEnd, Agree, run-agrees}
-use Rattle.soundness.proofs.Scoping.{needOf, scoped}
+use Rattle.soundness.proofs.Scoping.{scoped}
 
 -- ---- the inputs are truths and words, sixteen of them
 module _ (rule : List ℕ) (n : ℕ) (need : ℕ → ℕ) where
@@ -55,17 +56,12 @@ inputs-bound [] ns h = refl
 inputs-bound (x ∷ xs) [] h = absurd (omega arith)
 inputs-bound (x ∷ xs) (k ∷ ns) h = ap suc (inputs-bound xs ns (omega arith))
 
--- no bindings stand over record 0
-none-needed : (s : List ℕ) → needOf s 0 ≡ 0
-unfolding bindingsBelow
-none-needed s = getD-replicate {A = ℕ} recordLimit 0 0 0 (omega arith)
-
 -- a rule that passes the tests, run from the inputs
 module _ (s : List ℕ) (h : ruleRefusalOf s ≡ 0) (xs : List Input) (ns : List ℕ) (l : length xs ≡ inputCount) (m : inputCount ≤ length ns) (d : ℕ) where
-  rule-agrees : Agree s (recordsIn s) (needOf s) (totalOf s d 0 (inputsBound xs ns)) (runOf s d 0 (inputsBound xs ns))
+  rule-agrees : Agree s (recordsIn s) (inScopeAt s) (totalOf s d 0 (inputsBound xs ns)) (runOf s d 0 (inputsBound xs ns))
   rule-agrees =
-      let z = none-needed s in let b = inputs-bound xs ns (omega arith) in
-      run-agrees s (recordsIn s) (needOf s) (scoped s h) d 0 (inputsBound xs ns) (tested s h .some) (omega arith) (inputs-good s (recordsIn s) (needOf s) xs ns)
+      let z = root-scope s in let b = inputs-bound xs ns (omega arith) in
+      run-agrees s (recordsIn s) (inScopeAt s) (scoped s h) d 0 (inputsBound xs ns) (tested s h .some) (omega arith) (inputs-good s (recordsIn s) (inScopeAt s) xs ns)
 
   -- It runs as the concrete run does,
   pub rule-runs : totalOf s d 0 (inputsBound xs ns) ≡ runOf s d 0 (inputsBound xs ns)
@@ -75,7 +71,7 @@ module _ (s : List ℕ) (h : ruleRefusalOf s ≡ 0) (xs : List Input) (ns : List
   pub rule-proper : (v : Value) → runOf s d 0 (inputsBound xs ns) ≡ gives v → isProper v ≡ true
   rule-proper v e = go _ (rule-agrees .good) e
     where
-      go : (o : Ended) → GoodEnd s (recordsIn s) (needOf s) o → o ≡ gives v → isProper v ≡ true
+      go : (o : Ended) → GoodEnd s (recordsIn s) (inScopeAt s) o → o ≡ gives v → isProper v ≡ true
       go (gives w) g q = let i : w ≡ v = cc in ap isProper (sym i) ∙ g .proper
       go aborts g q = let n : _≡_ {A = ℕ} 0 1 = cc in absurd (omega arith)
       go errs g q = let n : _≡_ {A = ℕ} 0 1 = cc in absurd (omega arith)

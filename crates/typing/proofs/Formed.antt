@@ -9,6 +9,7 @@ use lib.ListN.{length}
 use lib.Dec.{eqb, ltb}
 use borrow.Author.Tests.{eqb-true, eqb-false, ltb-true}
 use Rattle.notation.specs.Notation.{pick, with, if_equals_then_else_, if_below_then_else_}
+use Rattle.notation.proofs.Every.{and-both}
 use Rattle.operators.specs.Operators.{operandsOf}
 use Rattle.semantics.specs.declared.Term.{Term}
 use Rattle.semantics.specs.Numbers.{truthTerm, choiceTerm, procedureTerm, bindingTerm, operatorTerm, noBinding, recordLimit, notCode, isWordCode, isProcedureCode, negationCode, conjunctionCode, disjunctionCode, truthCode}
@@ -21,8 +22,7 @@ pub never : {P : Type 0} → _≡_ {A = Bool} false true → P
 never e = let w : _≡_ {A = ℕ} 0 1 = cc in absurd (omega arith)
 
 pub both : {P : Type 0} (a b : Bool) → (a && b) ≡ true → (a ≡ true → b ≡ true → P) → P
-both true b h f = f refl h
-both false b h f = never h
+both a b h f = let x = and-both a b h in f (x .0) (x .1)
 
 pub either : {P : Type 0} (a b : Bool) → (a || b) ≡ true → (a ≡ true → P) → (b ≡ true → P) → P
 either true b h f g = f refl

@@ -1,4 +1,5 @@
-//! The library's functions over slices, as `include/desk.h` documents them: each answers 0 or the number of a refusal.
+//! The library's functions over slices, as `include/desk.h` documents them: each answers 0 or the number of a refusal, but
+//! for `rule_turns`, which answers a count.
 
 use crate::forms::Place;
 
@@ -15,6 +16,7 @@ mod c {
             session_len: usize,
         ) -> u8;
         pub fn desk_rule_refusal(rule: *const u8, rule_len: usize) -> u8;
+        pub fn desk_rule_turns(rule: *const u8, rule_len: usize) -> u16;
         pub fn desk_fits(
             session: *const u8,
             session_len: usize,
@@ -92,6 +94,10 @@ pub fn open(inputs: &[u8], table: &mut [u8], session: &mut [u8]) -> u8 {
 
 pub fn rule_refusal(rule: &[u8]) -> u8 {
     unsafe { c::desk_rule_refusal(rule.as_ptr(), rule.len()) }
+}
+
+pub fn rule_turns(rule: &[u8]) -> u16 {
+    unsafe { c::desk_rule_turns(rule.as_ptr(), rule.len()) }
 }
 
 pub fn fits(session: &[u8], table: &[u8]) -> u8 {

@@ -184,6 +184,12 @@ pub fn test_rule(rule: &[u8]) -> Result<(), Refusal> {
     accepted(exports::rule_refusal(rule))
 }
 
+/// How often the test of a rule's tree and places takes up a record: at most once for each. It is 0 where the rule's length
+/// or a record alone is refused before that (4 and 5), and less than all only where the tree is bad (6).
+pub fn rule_turns(rule: &[u8]) -> u16 {
+    exports::rule_turns(rule)
+}
+
 /// Runs a rule plainly under sixteen numbers, with a store of so many places.
 pub fn run(
     inputs: &[Input; 16],

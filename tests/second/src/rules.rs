@@ -28,8 +28,10 @@ impl Rule {
         }
         let expressions: Option<Vec<_>> = records(bytes).map(expression).collect();
         let expressions = expressions.ok_or(5)?;
-        let bindings = count_bindings(&expressions).ok_or(6)?;
-        if !expressions.iter().zip(bindings).all(in_scope) {
+        if !is_tree(&expressions) {
+            return Err(6);
+        }
+        if !all_in_scope(&expressions) {
             return Err(7);
         }
         Ok(Rule { expressions })
@@ -84,29 +86,42 @@ fn children(expression: Expression) -> [Option<(u16, u16)>; 2] {
     }
 }
 
-/// Test 6: the count of bindings over each record, or nothing if this is no tree.
-fn count_bindings(expressions: &[Expression]) -> Option<Vec<u16>> {
-    let mut counts = vec![None; expressions.len()];
-    counts[0] = Some(0);
+/// Test 6: each child stands after its parent and is a record of the rule, and each record but 0 is a child once.
+fn is_tree(expressions: &[Expression]) -> bool {
+    let mut times = vec![0; expressions.len()];
     for (number, &expression) in expressions.iter().enumerate() {
-        // A record no lower one has named cannot become a child any more.
-        let count = counts[number]?;
-        for (child, more) in children(expression).into_iter().flatten() {
+        for (child, _) in children(expression).into_iter().flatten() {
             let child = usize::from(child);
-            let free = child > number && counts.get(child) == Some(&None);
-            if !free {
-                return None;
+            let inside = child > number && child < times.len();
+            if !inside {
+                return false;
             }
-            counts[child] = Some(count + more);
+            times[child] += 1;
         }
     }
-    counts.into_iter().collect()
+    times.iter().skip(1).all(|&times| times == 1)
+}
+
+/// Test 7, down a tree from record 0, which has no bindings over it. The records still to be met stand in a list: a tree may
+/// be as deep as the rule is long, too deep for calls inside one another.
+fn all_in_scope(expressions: &[Expression]) -> bool {
+    let mut waiting = vec![(0, 0)];
+    while let Some((record, bindings)) = waiting.pop() {
+        let expression = expressions[usize::from(record)];
+        if !in_scope(expression, bindings) {
+            return false;
+        }
+        for (child, more) in children(expression).into_iter().flatten() {
+            waiting.push((child, bindings + more));
+        }
+    }
+    true
 }
 
 /// Test 7 for one record under its count of bindings.
-fn in_scope((expression, bindings): (&Expression, u16)) -> bool {
+fn in_scope(expression: Expression, bindings: u16) -> bool {
     let below = |place: u16| u32::from(place) < u32::from(bindings) + 16;
-    match *expression {
+    match expression {
         Expression::Variable(place) => below(place),
         Expression::Call {
             procedure,

@@ -175,6 +175,32 @@ fn places_15_and_16() {
 }
 
 #[test]
+fn places_in_the_deepest_rules() {
+    let tested = |inside: &[Record], place| {
+        let records = [inside, &[record(2, 0, place, 0, 0)]].concat();
+        run(&[FALSE; 16], &ZEROS, &rule(&records), 0, 0)
+    };
+    let procedures: Vec<Record> = (1..=4_095).map(|body| record(3, 0, body, 0, 0)).collect();
+    assert_eq!(tested(&procedures, 4_095 + 15), Outcome::Refused(8));
+    assert_eq!(tested(&procedures, 4_095 + 16), Outcome::Refused(7));
+    let lets: Vec<Record> = (0..2_047)
+        .flat_map(|n| {
+            [
+                record(6, 0, 2 * n + 1, 2 * n + 2, 0),
+                record(2, 0, n + 15, 0, 0),
+            ]
+        })
+        .collect();
+    assert_eq!(tested(&lets, 2_047 + 15), Outcome::Refused(8));
+    assert_eq!(tested(&lets, 2_047 + 16), Outcome::Refused(7));
+    for first in [0, 1_023, 2_046] {
+        let mut lets = lets.clone();
+        lets[2 * first + 1].a += 1;
+        assert_eq!(tested(&lets, 0), Outcome::Refused(7));
+    }
+}
+
+#[test]
 fn rule_tests_keep_their_order() {
     let inputs = [FALSE; 16];
     let refused = |records: &[Record], allowance| {

@@ -1,9 +1,8 @@
-//! The time of test 3 on full tables and on an opening, and of the tests 4 to 7 on the longest rule, beside the second
-//! evaluator's.
+//! The time of test 3 on full tables and on an opening, beside the second evaluator's.
 
-use crate::compare::{second_fits, second_rule_refusal};
+use crate::compare::second_fits;
 use crate::desk;
-use crate::rules::{guarded_update, long_rule};
+use crate::rules::guarded_update;
 use second::dice::record;
 use second::{evaluate, open, Answer, Input, Record, Session};
 use std::hint::black_box;
@@ -121,10 +120,4 @@ pub fn run() {
     let free = [Input { kind: 2, value: 0 }; 16];
     time_fits("an opening", opening(&free, 34), 3_000);
     time_fits("an opening", opening(&free, TERMS), 3_000);
-    let longest = long_rule(4_096);
-    assert_eq!(desk::rule_refusal(&longest), 0);
-    assert_eq!(second_rule_refusal(&longest), 0);
-    let ours = least(50, || desk::rule_refusal(black_box(&longest)));
-    let theirs = least(50, || second_rule_refusal(black_box(&longest)));
-    report("rule refusal, 4096 records", ours, theirs);
 }

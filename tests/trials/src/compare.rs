@@ -54,7 +54,21 @@ pub fn compare_rule(tally: &mut Tally, bytes: &[u8]) -> u8 {
     let (ours, theirs) = (desk::rule_refusal(bytes), second_rule_refusal(bytes));
     tally.saw("rule", theirs);
     tally.same("rule refusal", ours, theirs);
+    check_turns(tally, bytes, theirs);
     ours
+}
+
+/// The pass for 6 and 7 takes up no record twice: it has no turn where 4 or 5 refuses, one for each record where 6 does not,
+/// and ends with one of them where 6 does.
+fn check_turns(tally: &mut Tally, bytes: &[u8], refusal: u8) {
+    let turns = usize::from(desk::rule_turns(bytes));
+    let records = bytes.len() / 8;
+    let (least, most) = match refusal {
+        4 | 5 => (0, 0),
+        6 => (1, records),
+        _ => (records, records),
+    };
+    tally.same("turns", turns, turns.clamp(least, most));
 }
 
 pub fn compare_fits(tally: &mut Tally, session: &Session, table: &[u8]) -> u8 {

@@ -1,6 +1,6 @@
 //! The desk's exports, with the byte forms of what they take and give.
 
-pub use ::desk::exports::{evaluate, fits, open, read, rule_refusal, run, spans};
+pub use ::desk::exports::{evaluate, fits, open, read, rule_refusal, rule_turns, run, spans};
 pub use ::desk::forms::{Place, ANSWER, HALTED, INPUT, INPUTS, READING, REPORT, SESSION, WORD};
 use second::{Answer, Input, Outcome, Report, ResultOf, Session, Word};
 

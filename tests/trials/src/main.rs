@@ -1,8 +1,8 @@
 //! Compares the desk's exports and the printing program with the second evaluator, byte for byte, and the lines of the
 //! library's examples with those wanted. `faults` tries whether faults in the second evaluator are noticed by the trials at
 //! the limits; `limits` with the name of a group makes those of the group alone. `figures` takes times, counts terms and
-//! tries an evaluation in 1 MiB of stack; `bench`, `small`, `speed`, `terms`, `spans` and `stack` with a number of KiB are its
-//! parts.
+//! tries an evaluation in 1 MiB of stack; `bench`, `scopes`, `small`, `speed`, `terms`, `spans` and `stack` with a number of
+//! KiB are its parts.
 
 mod bench;
 mod choices;
@@ -13,14 +13,18 @@ mod examples;
 mod faults;
 mod form_trials;
 mod kept;
+mod laid;
 mod limits;
+mod long_rules;
 mod made;
 mod needs;
 mod prints;
 mod rule_trials;
 mod rules;
 mod run_trials;
+mod scope_speed;
 mod session_trials;
+mod shapes;
 mod small;
 mod span_speed;
 mod span_trials;
@@ -38,6 +42,7 @@ fn main() {
     match words.iter().map(String::as_str).collect::<Vec<_>>()[..] {
         ["figures"] => {
             bench::run();
+            scope_speed::run();
             small::run();
             speed::run();
             speed::terms();
@@ -45,6 +50,7 @@ fn main() {
             return stack::run(1_024);
         }
         ["bench"] => return bench::run(),
+        ["scopes"] => return scope_speed::run(),
         ["small"] => return small::run(),
         ["speed"] => return speed::run(),
         ["terms"] => return speed::terms(),

@@ -2,8 +2,8 @@
 
 use crate::compare::compare_open;
 use crate::tally::Tally;
-use crate::{evaluations, form_trials, limits, rule_trials, run_trials, session_trials};
-use crate::{span_trials, vectors};
+use crate::{evaluations, form_trials, limits, long_rules, rule_trials, run_trials};
+use crate::{session_trials, span_trials, vectors};
 use second::dice::Dice;
 use second::{Input, Word};
 
@@ -11,6 +11,7 @@ pub fn all() -> Tally {
     let mut tally = Tally::default();
     openings(&mut tally);
     rule_trials::all(&mut tally);
+    long_rules::all(&mut tally);
     run_trials::all(&mut tally);
     session_trials::all(&mut tally);
     form_trials::all(&mut tally);

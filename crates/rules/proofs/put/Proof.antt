@@ -1,6 +1,6 @@
 -- `rules::put` meets its contract, within the list and past its end. Assumes nothing.
 use borrow.Author.Needs.{needs}
-use Rattle.rules.proofs.Bindings.{put-past}
+use Rattle.rules.proofs.Scopes.{put-past}
 use Rattle.rules.proofs.put.Statement.{statement}
 use Rattle.rules.proofs.put.Tie as tie
 

@@ -2,6 +2,7 @@
 
 use super::evaluate;
 use crate::compare::{compare_rule, compare_run};
+use crate::long_rules;
 use crate::made::{Made, FALSE};
 use crate::rules::long_rule;
 use crate::tally::Tally;
@@ -16,8 +17,10 @@ pub fn all(tally: &mut Tally) {
     codes(tally);
     unused_fields(tally);
     children(tally);
+    many_parents(tally);
     scopes(tally);
     deep_scope(tally);
+    long_rules::of_size(tally, 4_096);
 }
 
 /// The tests alone, and as those of an evaluation and of a run: an allowance of 0 is what these refuse next.
@@ -187,8 +190,25 @@ fn children(tally: &mut Tally) {
     refused(tally, "a child below its parent", &lower, 6);
     let itself = [record(6, 0, 1, 2, 0), DATUM, record(3, 0, 2, 0, 0)];
     refused(tally, "a child of itself", &itself, 6);
+    let own = [DATUM, record(3, 0, 1, 0, 0)];
+    refused(tally, "its own parent", &own, 6);
+    let ring = [DATUM, record(3, 0, 2, 0, 0), record(3, 0, 1, 0, 0)];
+    refused(tally, "parents of each other", &ring, 6);
     let past = [record(3, 0, 1, 0, 0), record(3, 0, 2, 0, 0)];
     refused(tally, "the last record's child", &past, 6);
+}
+
+/// "each record but 0 is a child once": not 257 times either, which a byte would count as once. The parents are ifs inside one
+/// another by the then, all with the same else.
+fn many_parents(tally: &mut Tally) {
+    for parents in [2, 3, 255, 256, 257, 258, 2_047] {
+        let shared = parents + 1;
+        let mut records: Vec<Record> = (1..=parents)
+            .map(|then| record(7, 0, 0, then, shared))
+            .collect();
+        records.extend([DATUM, DATUM]);
+        refused(tally, "many parents", &records, 6);
+    }
 }
 
 /// Each field that holds a place.
