@@ -1,10 +1,11 @@
 /* The desk's library, target/staticlib/libdesk.a, which `rt staticlib desk` proves and writes (x86-64 Linux).
  *
- * A slice is lent as an address and a length: of bytes, for the work list of places, and for a list of reports of numbers.
- * The caller owes that the address is not null and holds so many, that a work list is aligned for desk_place and a list of
- * reports for uint32_t, and that nothing written (not const) overlaps another slice of the same call. Nothing else is asked
- * of a caller: every length and every byte is taken or refused. A call keeps no address and uses no memory but what is lent
- * and the stack; an evaluation at the largest depth takes up to 0.7 MiB of it.
+ * A slice is lent as an address and a length: of bytes, but for lists of numbers, whose lengths count numbers and not bytes:
+ * a work list and the answers for bales hold desk_place, the numbers of bales desk_word and a list of reports uint32_t. The
+ * caller owes that the address is not null and holds so many, that a list is aligned for the numbers that it holds, and that
+ * nothing written (not const) overlaps another slice of the same call. Nothing else is asked of a caller: every length and
+ * every byte is taken or refused. A call keeps no address and uses no memory but what is lent and the stack; an evaluation at
+ * the largest depth takes up to 0.7 MiB of it.
  *
  * Each function but desk_rule_turns, which answers a count, answers 0, or the number of the refusal that came first. What is
  * lent to a refused call is left as it was, except that work list and store are zero on every return. Documents 01 and 02
@@ -24,13 +25,15 @@
  *   12 the depth is spent
  *   13 a free truth given a number over 1
  *   14 a result's S, T or value; a result that is not of its form
- *   15 a work list or a list of reports shorter than the count of terms
+ *   15 a work list or a list of reports shorter than the count of terms; of desk_read_all also numbers that are no whole
+ *      bales of sixteen, or an answers list whose length is not the count of bales
  *   16 the store is full
  *   17 a free word's low is above its high
  *
  * and one more is the library's own, which comes before all of them:
  *
- *  255 a session, numbers, lows, highs, a result, or the place of an answer or a reading, of another length than its form has
+ *  255 a session, numbers (but those of bales), lows, highs, a result, or the place of an answer or a reading, of another
+ *      length than its form has
  *
  * Each function names its numbers below in the order in which they are tested. crates/forms/specs has the forms, and the
  * specs of crates/byte_opening, byte_fitting and so on each function's answer and every byte that it leaves, as definitions;
@@ -46,7 +49,7 @@
 extern "C" {
 #endif
 
-/* A word of the rules, and a place of a work list. */
+/* A word of the rules, and a place of a work list or of the answers for bales. */
 typedef uint16_t desk_word;
 typedef uint32_t desk_place;
 
@@ -70,7 +73,10 @@ typedef uint32_t desk_place;
  * numbers, 32 bytes: the number for input i stands at 2 * i, a word; a constant ignores its own. The lows and the highs of
  * desk_spans have this form too: there every input but a free word ignores its own
  *
- * result, 8 bytes: what desk_read reads; an answer begins with it
+ * samples, a list of type desk_word. A sample is the sixteen numbers of a bale: the number of sample n for input i is number
+ * 16 * n + i; a constant ignores its own
+ *
+ * result, 8 bytes: what desk_read and desk_read_all read; an answer begins with it
  *   0  S, two bytes
  *   2  T, two bytes
  *   4  value: the number of a term, two bytes; of a halt it is not looked at
@@ -86,6 +92,11 @@ typedef uint32_t desk_place;
  *   1  zero
  *   2  its number, a word: 0 or 1 of a truth, the word, a procedure's record; 0 of an abort and of an error
  *
+ * a sample's answer, one number of type desk_place: written by desk_read_all for each sample, that of sample n as number n. It
+ * is a kind times 65,536, which is two to the power of a word's bits, plus a number: DESK_SAMPLE_KIND and DESK_SAMPLE_NUMBER
+ * take it apart. Kind and number are those of the reading that desk_read would write; where it would refuse the sample by 13,
+ * the kind is DESK_SAMPLE_REFUSED and the number 13, so that the answer is 13
+ *
  * report, three numbers of type uint32_t: written by desk_spans for each term, that of term i from number 3 * i on
  *   0  one of enum desk_sort
  *   1  low: of a truth 0 if it may be false, else 1; of a word the least that it may be; 0 where the kind is open
@@ -96,7 +107,8 @@ enum {
     DESK_WORD_BYTES = sizeof(desk_word),
     DESK_INPUTS = 16 * 2 * DESK_WORD_BYTES,
     DESK_SESSION = DESK_INPUTS + 10,
-    DESK_NUMBERS = 16 * DESK_WORD_BYTES,
+    DESK_SAMPLE = 16,
+    DESK_NUMBERS = DESK_SAMPLE * DESK_WORD_BYTES,
     DESK_RESULT = 8,
     DESK_ANSWER = 10,
     DESK_READING = 2 * DESK_WORD_BYTES,
@@ -127,6 +139,13 @@ enum desk_reading {
     DESK_PROCEDURE = 7,
     DESK_ABORT = 8,
     DESK_ERROR = 9
+};
+
+/* A sample's answer taken apart: its kind, which is one of enum desk_reading or DESK_SAMPLE_REFUSED, and its number. */
+#define DESK_SAMPLE_KIND(answer) ((unsigned)((desk_place)(answer) >> (8 * DESK_WORD_BYTES)))
+#define DESK_SAMPLE_NUMBER(answer) ((desk_word)(answer))
+enum {
+    DESK_SAMPLE_REFUSED = 0
 };
 
 /* The numbers of a report, and what its first one says. */
@@ -177,6 +196,18 @@ uint8_t desk_read(const uint8_t *session, size_t session_len,
                   const uint8_t *result, size_t result_len,
                   desk_place *work, size_t work_len,
                   uint8_t *reading, size_t reading_len);
+
+/* Reads one result under many bales at a stroke: the numbers have a sample for each bale, the answers a place for each. In the
+ * bales' order, the answers are just what desk_read would give for each: a bale that 13 refuses has that as its answer and
+ * stops no other one. 3, 14 and 15 come first and stop the whole call. The work list is as for desk_read. No bales, which are
+ * two lists of length 0, are no refusal. The table is tested once, and for each bale only those terms are read that S, T
+ * and the value stand on. Answers 255, 3, 14 or 15, or 0. */
+uint8_t desk_read_all(const uint8_t *session, size_t session_len,
+                      const uint8_t *table, size_t table_len,
+                      const uint8_t *result, size_t result_len,
+                      const desk_word *numbers, size_t numbers_len,
+                      desk_place *work, size_t work_len,
+                      desk_place *answers, size_t answers_len);
 
 /* Runs one rule plainly, with no table and no session, under sixteen numbers. The store has a place for each whole 8
  * bytes, at most 8,192: 16 for the inputs, and one for each let and each call of a procedure.

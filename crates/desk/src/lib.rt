@@ -8,11 +8,14 @@
 //   answer    10 bytes: S, T, the value (0 of a halt), the halted mark and the depth, two bytes each
 //   reading    4 bytes: 1 a truth, 2 a word, 7 a procedure, 8 an abort or 9 an error, and its number, each as a word
 //   reports   a list of numbers of four bytes: of each term its sort (0 open, 1 a truth, 2 a word), its low and its high
+//   samples   a list of words, 16 for a sample; the answers are a list of places, of each sample a reading as one number: what
+//             it is, times 65,536, and its number; of a sample that 13 refuses 13 alone
 // A form of another length than its own is refused by 255 before anything else; inputs of another length, and what stands
 // in a form (a pad byte that is not zero, a mark over 1), by the operation's own number in its order of tests: inputs by
 // 2, a session by 3, a result by 14. A refusal leaves what is lent as it was, but for the work list and the store, which
 // are zero on every return. No public function has a `requires`.
 use reader::Place;
+use words::Word;
 ghost use mathlib.Core.Path.{_≡_};
 ghost use Prim.Native.Nat.{_≤_};
 ghost use Rattle.semantics.specs.Records.{recordsIn};
@@ -24,6 +27,7 @@ ghost use Rattle.byte_evaluating.specs.Evaluate.{deskEvaluate};
 ghost use Rattle.byte_reading.specs.Read.{deskRead};
 ghost use Rattle.byte_running.specs.Run.{deskRun};
 ghost use Rattle.byte_spans.specs.Spans.{deskSpans};
+ghost use Rattle.byte_samples.specs.Samples.{deskReadAll};
 
 // Opens a session over a table and writes it.
 #[no_mangle]
@@ -115,4 +119,19 @@ pub extern "C" fn desk_spans(
     ensures { λ r. ⌜ (r, now (reports .exit)) ≡ deskSpans (now (session .entry)) (now (table .entry)) (now (lows .entry)) (now (highs .entry)) (now (reports .entry)) ⌝ }
 {
     byte_spans::spans(session, table, lows, highs, reports)
+}
+
+// Reads a result under many samples, sixteen numbers each: the answers are those of single readings, in the samples' order.
+#[no_mangle]
+pub extern "C" fn desk_read_all(
+    session: &[u8],
+    table: &[u8],
+    result: &[u8],
+    numbers: &[Word],
+    work: &mut [Place],
+    answers: &mut [Place],
+) -> u8
+    ensures { λ r. ⌜ (r, now (work .exit), now (answers .exit)) ≡ deskReadAll (now (session .entry)) (now (table .entry)) (now (result .entry)) (now (numbers .entry)) (now (work .entry)) (now (answers .entry)) ⌝ }
+{
+    byte_samples::read_all(session, table, result, numbers, work, answers)
 }

@@ -20,7 +20,7 @@ use Rattle.semantics.specs.Evaluate.{badDepth}
 use Rattle.semantics.specs.Reading.{numbersTaken, resultTaken, readOutcome, readOf}
 use Rattle.semantics.specs.Run.{inputsBound}
 use Rattle.semantics.specs.PlainRun.{storedOutcome, startedOf, placesIn, runOutcome, runPlainlyOf}
-use Rattle.reader.specs.Reader.{outcomeIn}
+use Rattle.samples.specs.Marked.{outcomeIn}
 use Rattle.records.specs.Wiped.{wiped}
 use Rattle.records.proofs.Wiped.{wiped-all}
 

@@ -41,7 +41,7 @@ pub fn read(
     if reader::result_taken(table, session.count, result) {} else {
         return unread(numbers::BAD_RESULT, work);
     }
-    reader::read_result(table, session.count, numbers, result, work)
+    samples::read_result(table, session.count, numbers, result, work)
 }
 
 // A refused run.

@@ -1,3 +1,4 @@
 pub mod Tests
 pub mod Taken
+pub mod Held
 pub mod Work

@@ -1,6 +1,6 @@
-// The reader of results: whether the numbers and the result are such as can be read, and what a result reads as
-// under sixteen numbers. It takes the table as it stands and does not test that it is well formed. No public
-// function has a `requires`: a term that is not there reads as nothing, and a short work list is refused.
+// The reader of terms: whether the numbers and the result are such as can be read, what a term reads as under sixteen
+// numbers, of what is held for lower ones in a work list, and what a result reads as. No public function has a `requires`:
+// a term that is not there reads as nothing.
 use semantics::Input;
 use semantics::Outcome;
 use semantics::Reading;
@@ -12,13 +12,13 @@ use words::Wide;
 use words::Word;
 ghost use mathlib.Core.Path.{_≡_};
 ghost use mathlib.Core.Bool.{_&&_, _||_, not};
-ghost use Prim.Native.Nat.{_≤_};
 ghost use lib.ListN.{length, getD, replicate};
 ghost use Rattle.semantics.specs.Terms.{termsIn};
 ghost use Rattle.semantics.specs.Reading.{truthReading, isTrue, isTruth, isWord, passes as «passes-test», resultReading, operandsAreWords, operationReading, operatorReading, termReading, valueOutcome, resultOutcome, numbersTaken, resultTaken};
-ghost use Rattle.reader.specs.Reader.{numberTaken, outcomeIn, unpackedOf, lowerOf, Reads};
+ghost use Rattle.notation.specs.Notation.{if_then_else_};
+ghost use Rattle.reader.specs.Reader.{numberTaken, heldOutcome, unpackedOf, heldReading};
 
-// A place of the work list: the sort of a reading, counted in words, and its number.
+// A place of the work list: the sort of a reading, counted in words, and its number. What stands above them is not read.
 pub type Place = Wide;
 
 // No free truth is given a number over 1.
@@ -67,26 +67,13 @@ pub fn result_taken(table: &[u8], count: u16, result: Result) -> bool
     }
 }
 
-// What a result reads as in a table with `count` terms. The work list has a place for each of them, or is refused;
-// it is zero on every return.
-pub fn read_result(
-    table: &[u8],
-    count: u16,
-    numbers: [Word; 16],
-    result: Result,
-    work: &mut [Place],
-) -> Outcome
-    ensures { λ r. ⌜ r ≡ outcomeIn (now (table .entry)) count numbers result (length (now (work .entry))) ⌝ ∗ ⌜ now (work .exit) ≡ replicate (length (now (work .entry))) 0 ⌝ }
+// What a result reads as, of what is held for the terms.
+pub fn outcome_held(held: &[Place], result: Result) -> Outcome
+    ensures { λ r. ⌜ r ≡ heldOutcome (now (held .entry)) result ⌝ }
 {
-    if work.len() < count as usize {
-        wipe(work);
-        return Outcome::Refused(numbers::WORK_SHORT);
-    }
-    fill(table, count, numbers, work);
-    let assumed = lower(work, count, result.state.assumed);
-    let asserted = lower(work, count, result.state.asserted);
-    let value = lower(work, count, result.value);
-    wipe(work);
+    let assumed = held_reading(held, result.state.assumed);
+    let asserted = held_reading(held, result.state.asserted);
+    let value = held_reading(held, result.value);
     result_outcome(assumed, asserted, result.halted, value)
 }
 
@@ -101,44 +88,18 @@ pub fn wipe(work: &mut [Place])
     }
 }
 
-// What each term reads as, from the first on: a term is read from lower ones.
-fn fill(table: &[u8], count: u16, numbers: [Word; 16], work: &mut [Place])
-    requires { ⌜ count ≤ length (now work) ⌝ }
-    ensures { λ _. ⌜ Reads numbers (now (table .entry)) count (now (work .exit)) ⌝ }
+// What is held for term k; nothing where there is no place for it.
+fn held_reading(held: &[Place], k: u16) -> Reading
+    ensures { λ r. ⌜ r ≡ heldReading (now (held .entry)) k ⌝ }
 {
-    let mut i: u16 = 0;
-    while i < count {
-        let t = records::term_at(table, i);
-        let x = lower(work, i, t.a);
-        let y = lower(work, i, t.b);
-        let z = lower(work, i, t.c);
-        let v = pack(term_reading(t, numbers, x, y, z));
-        work[i as usize] = v;
-        i += 1;
-    }
-}
-
-// What term k reads as, where it is below i; nothing where it is not.
-fn lower(work: &[Place], i: u16, k: u16) -> Reading
-    ensures { λ r. ⌜ r ≡ lowerOf (now (work .entry)) i k ⌝ }
-{
-    if k < i {
-        let at = k as usize;
-        if at < work.len() {
-            return unpack(work[at]);
-        }
+    let at = k as usize;
+    if at < held.len() {
+        return unpack(held[at]);
     }
     Reading { sort: 0, number: 0 }
 }
 
-// A reading as it is kept in the work list.
-fn pack(v: Reading) -> Place
-    ensures { λ r. ⌜ unpackedOf r ≡ v ⌝ }
-{
-    WORDS * (v.sort as Place) + (v.number as Place)
-}
-
-// The reading that was packed; 0 is nothing.
+// The reading in a place; 0 is nothing.
 fn unpack(n: Place) -> Reading
     ensures { λ r. ⌜ r ≡ unpackedOf n ⌝ }
 {
@@ -148,11 +109,18 @@ fn unpack(n: Place) -> Reading
     }
 }
 
-// A term, of what a, b and c read as. A binding reads as nothing.
-fn term_reading(t: Term, numbers: [Word; 16], x: Reading, y: Reading, z: Reading) -> Reading
-    ensures { λ r. ⌜ r ≡ termReading numbers t x y z ⌝ }
+// A term, of what is held for lower ones. Only those are looked up that it is read from; operators and choices, of which a
+// table has most, come first.
+pub fn term_reading(t: Term, numbers: [Word; 16], held: &[Place]) -> Reading
+    ensures { λ r. ⌜ r ≡ termReading numbers t (heldReading (now (held .entry)) (t .a)) (heldReading (now (held .entry)) (t .b)) (heldReading (now (held .entry)) (t .c)) ⌝ }
 {
     let k = t.kind;
+    if k == numbers::OPERATOR_TERM {
+        return operator_reading(t.op, held_reading(held, t.a), held_reading(held, t.b));
+    }
+    if k == numbers::CHOICE_TERM {
+        return choice_reading(t, held);
+    }
     match k {
         numbers::TRUTH_TERM => Reading {
             sort: numbers::TRUTH_TERM,
@@ -170,13 +138,23 @@ fn term_reading(t: Term, numbers: [Word; 16], x: Reading, y: Reading, z: Reading
             sort: numbers::WORD_TERM,
             number: number(numbers, t.a),
         },
-        numbers::OPERATOR_TERM => operator_reading(t.op, x, y),
-        numbers::CHOICE_TERM => if is_true(x) { y } else { z },
         numbers::PROCEDURE_TERM => Reading {
             sort: numbers::PROCEDURE_TERM,
             number: t.a as Word,
         },
+        // a binding reads as nothing
         _ => Reading { sort: 0, number: 0 },
+    }
+}
+
+// A choice: b if a, else c.
+fn choice_reading(t: Term, held: &[Place]) -> Reading
+    ensures { λ r. ⌜ r ≡ (if isTrue (heldReading (now (held .entry)) (t .a)) then heldReading (now (held .entry)) (t .b) else heldReading (now (held .entry)) (t .c)) ⌝ }
+{
+    if is_true(held_reading(held, t.a)) {
+        held_reading(held, t.b)
+    } else {
+        held_reading(held, t.c)
     }
 }
 

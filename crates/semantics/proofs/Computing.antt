@@ -19,6 +19,8 @@ use Rattle.semantics.specs.Fits as Fits
 use Rattle.semantics.specs.Evaluate as Evaluate
 use Rattle.semantics.specs.Fold as Fold
 use Rattle.semantics.specs.Reading as Reading
+use Rattle.semantics.specs.Under as Under
+use Rattle.semantics.specs.Samples as Samples
 use Rattle.semantics.specs.Spans as Spans
 use Rattle.semantics.specs.Run as Run
 use Rattle.semantics.specs.PlainRun as PlainRun
@@ -93,6 +95,14 @@ unfoldable reading : ℕ
 unfolding Reading.isTrue Reading.isTruth Reading.isWord Reading.passes Reading.resultReading Reading.operandsAreWords Reading.operationReading Reading.operatorReading Reading.termReading Reading.readings Reading.valueOutcome Reading.resultOutcome Reading.numbersTaken Reading.resultTaken Reading.readIn Reading.readOutcome Reading.readOf
 reading = 0
 
+unfoldable under : ℕ
+unfolding Under.fromFirst Under.fromSecond Under.fromThird Under.withTerm Under.withLower Under.downFrom Under.namedBy Under.underOf
+under = 0
+
+unfoldable samples : ℕ
+unfolding Samples.samplesFrom Samples.outcomeTold Samples.sampleRefusal Samples.readAllOf
+samples = 0
+
 unfoldable spans : ℕ
 unfolding Spans.onlyTrue Spans.onlyFalse Spans.areSpans Spans.areTruths Spans.sumReport Spans.differenceReport Spans.lessReport Spans.notReport Spans.andReport Spans.orReport Spans.otherReport Spans.operatorReport Spans.coverOf Spans.choiceReport Spans.termReport Spans.reports Spans.endOf Spans.endsOf Spans.laid Spans.spanTaken Spans.spansTaken Spans.spansOf
 spans = 0
@@ -114,5 +124,5 @@ unfolding Print.inputsFrom Print.inputsWhole Print.termLine Print.termLines Prin
 print = 0
 
 unfoldable pub computing : ℕ
-unfolding notation words operators records rules terms steps factory opening states walk merge evaluation fits evaluate fold reading spans run plainRun history print
+unfolding notation words operators records rules terms steps factory opening states walk merge evaluation fits evaluate fold reading under samples spans run plainRun history print
 computing = 0

@@ -1,4 +1,7 @@
 pub mod Fold
+pub mod Operands
+pub mod Under
+pub mod Samples
 pub mod Scopes
 pub mod Spans
 pub mod Fields
@@ -6,4 +9,5 @@ pub mod Computing
 pub mod Instances
 pub mod ScopeInstances
 pub mod SpanInstances
+pub mod SampleInstances
 pub mod Lasting

@@ -14,6 +14,8 @@ pub mod Answers
 pub mod Evaluate
 pub mod Fold
 pub mod Reading
+pub mod Under
+pub mod Samples
 pub mod Spans
 pub mod Run
 pub mod PlainRun

@@ -19,7 +19,8 @@ use Rattle.semantics.proofs.Fold.{Each, each-both, fold-related}
 use Rattle.typing.proofs.Formed.{never, both, by-test}
 use Rattle.typing.proofs.Folds.{formed-each}
 use Rattle.soundness.proofs.Means.{isTrue as isTrueValue, isTruth as isTruthValue, isProper, wrongValue, operatorMeaning, termMeaning, meaning}
-use Rattle.soundness.proofs.Operate.{one-operand, truth-bit, operation-truth, operation-word}
+use Rattle.semantics.proofs.Operands.{one-operand}
+use Rattle.soundness.proofs.Operate.{truth-bit, operation-truth, operation-word}
 
 -- what a value reads as
 abbrev pub readingIn : Value → Reading

@@ -2,11 +2,11 @@
 use mathlib.Core.Path.{_≡_, refl, sym, ap, _∙_}
 use mathlib.Core.Bool.{Bool, true, false}
 use mathlib.Core.List.{List}
-use Prim.Native.Nat.{ℕ, _<_, _≤_}
+use Prim.Native.Nat.{ℕ, _<_}
 use native.Mathlib.Omega.{arith}
 use lib.ListN.{length}
 use lib.Dec.{eqb, ltb}
-use borrow.Author.Tests.{eqb-true, eqb-false, ne-eqb, lt-ltb}
+use borrow.Author.Tests.{eqb-true, ne-eqb, lt-ltb}
 use Rattle.words.specs.Words.{width}
 use Rattle.words.proofs.Words.{zero-product, product-zero, zero-and, and-zero}
 use Rattle.notation.specs.Notation.{pick, with, if_then_else_, if_equals_then_else_, if_below_then_else_}
@@ -15,6 +15,7 @@ use Rattle.semantics.specs.declared.Term.{Term}
 use Rattle.semantics.specs.Numbers.{wordTerm, operatorTerm, multiplyCode, bitwiseAndCode, notCode, falseNumber, trueNumber, tableFull}
 use Rattle.semantics.specs.Terms.{term, termWord, truthNumber, at}
 use Rattle.semantics.specs.Factory.{makeWordOf, makeOperatorOf, constantOf, isZeroOf, zeroAbsorbsOf, zeroFoldOf, operatorTermOf}
+use Rattle.semantics.proofs.Operands.{one-operand}
 use Rattle.semantics.specs.Run.{Value, truth, word, isAWord, wordIn, operationValue, wordsRun}
 use Rattle.typing.proofs.Grown.{grown-length}
 use Rattle.typing.proofs.Formed.{never, by-test}
@@ -36,36 +37,6 @@ pub truth-bit : (op x y : ℕ) → givesTruthOf op ≡ true → operateOf op x y
 unfolding operateOf if_equals_then_else_ givesTruthOf rowOf
 truth-bit op x y h =
     rw (other op 1 h refl, other op 2 h refl, other op 3 h refl, other op 4 h refl, other op 5 h refl, other op 6 h refl, other op 7 h refl, other op 8 h refl, other op 9 h refl, other op 10 h refl)
-
--- a code that has one operand is none of the codes that have another count
-differs : (op k m : ℕ) → operandsOf op ≡ 1 → operandsOf k ≡ m → (m ≡ 1 → ⊥) → op ≡ k → ⊥
-differs op k m h e d i = d (sym e ∙ (ap operandsOf (sym i) ∙ h))
-
--- the two codes that have one operand
-from-three : (op : ℕ) → operandsOf op ≡ 1 → 3 ≤ op
-unfolding operandsOf rowOf
-from-three op h = omega (arith, differs op 0 0 h refl (λ i. omega arith), differs op 1 2 h refl (λ i. omega arith), differs op 2 2 h refl (λ i. omega arith))
-
-from-six : (op : ℕ) → operandsOf op ≡ 1 → 6 ≤ op
-unfolding operandsOf rowOf
-from-six op h = let l = from-three op h in omega (arith, differs op 3 2 h refl (λ i. omega arith), differs op 4 2 h refl (λ i. omega arith), differs op 5 2 h refl (λ i. omega arith))
-
-from-nine : (op : ℕ) → operandsOf op ≡ 1 → 9 ≤ op
-unfolding operandsOf rowOf
-from-nine op h = let l = from-six op h in omega (arith, differs op 6 2 h refl (λ i. omega arith), differs op 7 2 h refl (λ i. omega arith), differs op 8 2 h refl (λ i. omega arith))
-
-only-two : (op : ℕ) → op < notCode → operandsOf op ≡ 1 → (op ≡ 9 → ⊥) → op ≡ 10
-unfolding operandsOf rowOf
-only-two op l h e = let k = from-nine op h in omega (arith, e, differs op 11 2 h refl (λ i. omega arith), differs op 12 2 h refl (λ i. omega arith))
-
--- an operator that has one operand does not look at a second
-pub one-operand : (op x y z : ℕ) → op < notCode → operandsOf op ≡ 1 → operateOf op x y ≡ operateOf op x z
-unfolding operateOf if_equals_then_else_
-one-operand op x y z l h = go (eqb op 9) refl
-  where
-    go : (b : Bool) → eqb op 9 ≡ b → operateOf op x y ≡ operateOf op x z
-    go true e = rw (eqb-true op 9 e)
-    go false e = rw (only-two op l h (eqb-false op 9 e))
 
 pub one-value : (op x y z : ℕ) → op < notCode → operandsOf op ≡ 1 → operationValue op x y ≡ operationValue op x z
 unfolding operationValue

@@ -1,10 +1,10 @@
 //! The library's functions over slices, as `include/desk.h` documents them: each answers 0 or the number of a refusal, but
 //! for `rule_turns`, which answers a count.
 
-use crate::forms::Place;
+use crate::forms::{Place, Word};
 
 mod c {
-    use super::Place;
+    use super::{Place, Word};
 
     extern "C" {
         pub fn desk_open(
@@ -48,6 +48,20 @@ mod c {
             reading: *mut u8,
             reading_len: usize,
         ) -> u8;
+        pub fn desk_read_all(
+            session: *const u8,
+            session_len: usize,
+            table: *const u8,
+            table_len: usize,
+            result: *const u8,
+            result_len: usize,
+            numbers: *const Word,
+            numbers_len: usize,
+            work: *mut Place,
+            work_len: usize,
+            answers: *mut Place,
+            answers_len: usize,
+        ) -> u8;
         pub fn desk_run(
             inputs: *const u8,
             inputs_len: usize,
@@ -76,8 +90,8 @@ mod c {
     }
 }
 
-// Each call below is safe: the library asks only for slices that are there and do not overlap where it writes, which is
-// what `&[u8]` and `&mut [u8]` are.
+// Each call below is safe: the library asks only for slices that are there, are aligned for what they hold and do not
+// overlap where it writes, which is what `&[T]` and `&mut [T]` are.
 
 pub fn open(inputs: &[u8], table: &mut [u8], session: &mut [u8]) -> u8 {
     unsafe {
@@ -148,6 +162,32 @@ pub fn read(
             work.len(),
             reading.as_mut_ptr(),
             reading.len(),
+        )
+    }
+}
+
+pub fn read_all(
+    session: &[u8],
+    table: &[u8],
+    result: &[u8],
+    numbers: &[Word],
+    work: &mut [Place],
+    answers: &mut [Place],
+) -> u8 {
+    unsafe {
+        c::desk_read_all(
+            session.as_ptr(),
+            session.len(),
+            table.as_ptr(),
+            table.len(),
+            result.as_ptr(),
+            result.len(),
+            numbers.as_ptr(),
+            numbers.len(),
+            work.as_mut_ptr(),
+            work.len(),
+            answers.as_mut_ptr(),
+            answers.len(),
         )
     }
 }

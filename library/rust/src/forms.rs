@@ -1,6 +1,6 @@
 //! The lengths of the byte forms, as `include/desk.h` has them: all of them go by the length of a word.
 
-/// A word of the rules, and a place of a work list.
+/// A word of the rules, and a place of a work list or of the answers for bales.
 pub type Word = u16;
 pub type Place = u32;
 
@@ -16,7 +16,9 @@ pub const COUNT: usize = INPUTS;
 pub const ASSERTED: usize = COUNT + 4;
 pub const HALTED: usize = COUNT + 8;
 
-pub const NUMBERS: usize = 16 * WORD;
+/// A sample is the sixteen numbers of a bale, one for each input; as bytes they are lent for a single reading.
+pub const SAMPLE: usize = 16;
+pub const NUMBERS: usize = SAMPLE * WORD;
 pub const RESULT: usize = 8;
 pub const ANSWER: usize = 10;
 

@@ -1,11 +1,11 @@
 //! The desk for Rust: a session over a table, the rules that are evaluated in it, the readings of their results under
-//! sixteen numbers, what they can be within spans, and plain runs. Byte forms stay inside; `exports` has the functions over
-//! them.
+//! sixteen numbers and under those of many bales at a stroke, what they can be within spans, and plain runs. Byte forms
+//! stay inside; `exports` has the functions over them.
 
 pub mod exports;
 pub mod forms;
 
-use forms::{Word, ANSWER, ASSERTED, COUNT, INPUT, READING, REPORT, SESSION, WORD};
+use forms::{Place, Word, ANSWER, ASSERTED, COUNT, INPUT, READING, REPORT, SAMPLE, SESSION, WORD};
 
 /// An input of a session.
 #[derive(Clone, Copy, Debug, PartialEq, Eq)]
@@ -111,28 +111,38 @@ impl Desk {
 
     /// Reads an answer under sixteen numbers.
     pub fn read(&self, answer: Answer, numbers: &[Word; 16]) -> Result<Reading, Refusal> {
-        let (assumed, asserted, value, halted) = match answer {
-            Answer::Out {
-                assumed,
-                asserted,
-                value,
-                ..
-            } => (assumed, asserted, value, 0),
-            Answer::Halt {
-                assumed, asserted, ..
-            } => (assumed, asserted, 0, 1),
-        };
         let mut work = vec![0; usize::from(self.count())];
         let mut form = [0; READING];
         accepted(exports::read(
             &self.session,
             &self.table,
             &words(numbers),
-            &pairs(&[assumed, asserted, value, halted]),
+            &result_bytes(answer),
             &mut work,
             &mut form,
         ))?;
         Ok(reading(form))
+    }
+
+    /// Reads an answer under many bales in one call, with a sample for each. In the bales' order, each gets just what `read`
+    /// gives under its numbers: a bale that 13 refuses has its `Err` in the list and stops no other one. The table is tested
+    /// once for all of them.
+    pub fn read_all(
+        &self,
+        answer: Answer,
+        samples: &[[Word; SAMPLE]],
+    ) -> Result<Vec<Result<Reading, Refusal>>, Refusal> {
+        let mut work = vec![0; usize::from(self.count())];
+        let mut answers = vec![0; samples.len()];
+        accepted(exports::read_all(
+            &self.session,
+            &self.table,
+            &result_bytes(answer),
+            samples.as_flattened(),
+            &mut work,
+            &mut answers,
+        ))?;
+        Ok(answers.into_iter().map(sample_reading).collect())
     }
 
     /// A report for each term, given the least and the most that each free word, a moisture head, can be; the lows and highs
@@ -234,6 +244,22 @@ fn inputs_bytes(inputs: &[Input; 16]) -> Vec<u8> {
     bytes
 }
 
+/// What an answer says without its depth.
+fn result_bytes(answer: Answer) -> Vec<u8> {
+    let (assumed, asserted, value, halted) = match answer {
+        Answer::Out {
+            assumed,
+            asserted,
+            value,
+            ..
+        } => (assumed, asserted, value, 0),
+        Answer::Halt {
+            assumed, asserted, ..
+        } => (assumed, asserted, 0, 1),
+    };
+    pairs(&[assumed, asserted, value, halted])
+}
+
 fn pairs(numbers: &[u16]) -> Vec<u8> {
     numbers.iter().flat_map(|n| n.to_le_bytes()).collect()
 }
@@ -249,8 +275,20 @@ fn two(bytes: &[u8], at: usize) -> u16 {
 fn reading(form: [u8; READING]) -> Reading {
     let mut word = [0; WORD];
     word.copy_from_slice(&form[WORD..]);
-    let number = Word::from_le_bytes(word);
-    match form[0] {
+    reading_of(Place::from(form[0]), Word::from_le_bytes(word))
+}
+
+/// A sample's answer has the kind above the bits of a word; no kind is 0, which is left to a refused sample.
+fn sample_reading(answer: Place) -> Result<Reading, Refusal> {
+    let (kind, number) = (answer >> Word::BITS, answer as Word);
+    match kind {
+        0 => Err(Refusal(number as u8)),
+        _ => Ok(reading_of(kind, number)),
+    }
+}
+
+fn reading_of(kind: Place, number: Word) -> Reading {
+    match kind {
         1 => Reading::Truth(number == 1),
         2 => Reading::Word(number),
         7 => Reading::Procedure(number),

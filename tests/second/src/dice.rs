@@ -109,6 +109,16 @@ impl Dice {
         })
     }
 
+    /// The numbers of so many samples in turn, all of which 13 lets pass.
+    pub fn samples(&mut self, inputs: &[Input; 16], count: usize) -> Vec<Word> {
+        (0..count).flat_map(|_| self.numbers(inputs)).collect()
+    }
+
+    /// The numbers of so many samples in turn, of which a few are refused by 13.
+    pub fn any_samples(&mut self, inputs: &[Input; 16], count: usize) -> Vec<Word> {
+        (0..count).flat_map(|_| self.any_numbers(inputs)).collect()
+    }
+
     /// Lows and highs that 17 lets pass: those of an input that is no free word are any.
     pub fn spans(&mut self, inputs: &[Input; 16]) -> Spans {
         let widest = self.pick(&[0, 1, 8, 300, u64::from(Word::MAX)]);

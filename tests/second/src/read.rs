@@ -40,23 +40,33 @@ fn attempt(
     if work_len < factory.terms().len() {
         return Err(15);
     }
-    let readings = read_terms(factory.terms(), numbers);
+    Ok(read_result(factory.terms(), numbers, result))
+}
+
+/// What a result reads as, under numbers that 13 lets pass; 14 has let the result pass.
+pub fn read_result(terms: &[Term], numbers: &[Word; 16], result: &ResultOf) -> Outcome {
+    let readings = read_terms(terms, numbers);
     let at = |number: u16| readings[usize::from(number)];
-    Ok(match (at(result.s).holds(), at(result.t).holds()) {
+    match (at(result.s).holds(), at(result.t).holds()) {
         (false, true) => Outcome::Abort,
         (true, true) if !result.halted => outcome(at(result.value)),
         _ => Outcome::Error,
-    })
+    }
 }
 
 /// What every term reads as, under numbers that 13 lets pass; a binding, which is no value, reads as false.
-pub fn read_all(session: &Session, table: &[u8], numbers: &[Word; 16]) -> Result<Vec<Outcome>, u8> {
+pub fn term_readings(
+    session: &Session,
+    table: &[u8],
+    numbers: &[Word; 16],
+) -> Result<Vec<Outcome>, u8> {
     let fitted = fit(session, table)?;
     let readings = read_terms(fitted.factory.terms(), numbers);
     Ok(readings.into_iter().map(outcome).collect())
 }
 
-fn result_fits(factory: &Factory, result: &ResultOf) -> bool {
+/// Test 14.
+pub fn result_fits(factory: &Factory, result: &ResultOf) -> bool {
     let is_value = |number| number < factory.count() && factory.sort(number) != Sort::Binding;
     is_truth(factory, result.s)
         && is_truth(factory, result.t)

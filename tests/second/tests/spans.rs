@@ -2,7 +2,7 @@ mod common;
 
 use common::{free_inputs, opened, word, FREE_WORD};
 use second::dice::{record, rule, Dice};
-use second::{evaluate, read_all, spans, Answer, Outcome, Report, Span, Spans, Truths, Word};
+use second::{evaluate, spans, term_readings, Answer, Outcome, Report, Span, Spans, Truths, Word};
 
 const WIDEST: Spans = Spans {
     lows: [0; 16],
@@ -39,7 +39,7 @@ fn readings_lie_in_their_reports() {
         let reports = spans(&session, &table, &given, 512).expect("reports");
         for _ in 0..4 {
             let numbers = dice.numbers_in(&inputs, &given);
-            let readings = read_all(&session, &table, &numbers).expect("readings");
+            let readings = term_readings(&session, &table, &numbers).expect("readings");
             for (&report, reading) in reports.iter().zip(readings) {
                 assert!(covers(report, reading), "{report:?} {reading:?}");
             }

@@ -4,9 +4,8 @@
 use crate::desk;
 use crate::made::FALSE;
 use crate::tally::Tally;
-use second::{
-    evaluate, open, read, run, spans, Answer, Input, Outcome, ResultOf, Session, Spans, Word,
-};
+use second::{evaluate, open, read, read_all, run, spans};
+use second::{Answer, Input, Outcome, ResultOf, Session, Spans, Word};
 
 /// Tests 4 to 7: a run on good inputs with an allowance of 0 goes no further than 8.
 pub fn second_rule_refusal(bytes: &[u8]) -> u8 {
@@ -131,6 +130,43 @@ pub fn compare_read(
     tally.same("read", (refusal, reading), desk::outcome_bytes(outcome));
     tally.same("read's work is zero", ours.iter().all(|&n| n == 0), true);
     refusal
+}
+
+/// With a work list and an answers list of so many places; a refused call leaves the answers. Gives the desk's answers too.
+pub fn compare_samples(
+    tally: &mut Tally,
+    session: &Session,
+    table: &[u8],
+    result: &ResultOf,
+    numbers: &[Word],
+    work: usize,
+    answers: usize,
+) -> (u8, Vec<desk::Place>) {
+    let mut places = vec![0x5a5a_5a5a; work];
+    let mut ours = desk::unread_samples(answers);
+    let refusal = desk::read_all(
+        &desk::session_bytes(session),
+        table,
+        &desk::result_bytes(result),
+        numbers,
+        &mut places,
+        &mut ours,
+    );
+    let (expected, theirs) = match read_all(session, table, result, numbers, work, answers) {
+        Ok(outcomes) => {
+            for &outcome in &outcomes {
+                tally.saw("sample", answer_number(outcome));
+            }
+            (0, outcomes.into_iter().map(desk::sample_answer).collect())
+        }
+        Err(refusal) => (refusal, desk::unread_samples(answers)),
+    };
+    tally.saw("read_all", expected);
+    tally.same("read_all", refusal, expected);
+    tally.same_list("read_all's answers", &ours, &theirs);
+    let zero = places.iter().all(|&n| n == 0);
+    tally.same("read_all's work is zero", zero, true);
+    (refusal, ours)
 }
 
 /// With a list of so many numbers; what is not written in it stays. Gives the desk's list too.

@@ -1,7 +1,11 @@
 //! The desk's exports, with the byte forms of what they take and give.
 
-pub use ::desk::exports::{evaluate, fits, open, read, rule_refusal, rule_turns, run, spans};
-pub use ::desk::forms::{Place, ANSWER, HALTED, INPUT, INPUTS, READING, REPORT, SESSION, WORD};
+pub use ::desk::exports::{
+    evaluate, fits, open, read, read_all, rule_refusal, rule_turns, run, spans,
+};
+pub use ::desk::forms::{
+    Place, ANSWER, HALTED, INPUT, INPUTS, READING, REPORT, SAMPLE, SESSION, WORD,
+};
 use second::{Answer, Input, Outcome, Report, ResultOf, Session, Word};
 
 pub fn inputs_bytes(inputs: &[Input; 16]) -> Vec<u8> {
@@ -62,20 +66,51 @@ pub fn answer_bytes(answer: Answer) -> (u8, [u8; ANSWER]) {
 /// What a refused operation leaves at a reading's place: these bytes, as they were.
 pub const UNREAD: [u8; READING] = [0xa5; READING];
 
-/// The refusal or 0, and the reading's bytes then: two words.
-pub fn outcome_bytes(outcome: Outcome) -> (u8, [u8; READING]) {
-    let (tag, number) = match outcome {
+/// The kind and the number of what was read, or the refusal.
+fn kind_and_number(outcome: Outcome) -> Result<(u8, Word), u8> {
+    Ok(match outcome {
         Outcome::Truth(truth) => (1, Word::from(truth)),
         Outcome::Word(word) => (2, word),
         Outcome::Procedure(record) => (7, record as Word),
         Outcome::Abort => (8, 0),
         Outcome::Error => (9, 0),
-        Outcome::Refused(refusal) => return (refusal, UNREAD),
+        Outcome::Refused(refusal) => return Err(refusal),
+    })
+}
+
+/// The refusal or 0, and the reading's bytes then: two words.
+pub fn outcome_bytes(outcome: Outcome) -> (u8, [u8; READING]) {
+    let (kind, number) = match kind_and_number(outcome) {
+        Ok(read) => read,
+        Err(refusal) => return (refusal, UNREAD),
     };
     let mut bytes = [0; READING];
-    bytes[0] = tag;
+    bytes[0] = kind;
     bytes[WORD..].copy_from_slice(&number.to_le_bytes());
     (0, bytes)
+}
+
+/// A list of answers for samples before a call: no sample has such an answer, and no two places hold the same.
+pub fn unread_samples(answers: usize) -> Vec<Place> {
+    (0xa5a5_0000..).take(answers).collect()
+}
+
+/// The kind and the number in one; a refusal is of kind 0.
+pub fn sample_answer(outcome: Outcome) -> Place {
+    match kind_and_number(outcome) {
+        Ok((kind, number)) => joined(kind, number),
+        Err(refusal) => Place::from(refusal),
+    }
+}
+
+/// The answer of a sample that is read singly, by the reading's bytes.
+pub fn reading_answer(reading: &[u8; READING]) -> Place {
+    joined(reading[0], word(&reading[WORD..]))
+}
+
+/// The kind times two to the power of a word's bits, and the number.
+fn joined(kind: u8, number: Word) -> Place {
+    Place::from(kind) << Word::BITS | Place::from(number)
 }
 
 /// A list of reports before a call: no report has such numbers, and no two places the same.

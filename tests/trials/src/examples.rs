@@ -8,12 +8,13 @@ use std::process::Command;
 /// An example's name in either language, and its lines.
 type Example = (&'static str, &'static str);
 
-const EXAMPLES: [Example; 2] = [
+const EXAMPLES: [Example; 3] = [
     (
         "printed_case",
         include_str!("../../../library/printed_case.txt"),
     ),
     ("spans", include_str!("../../../library/spans.txt")),
+    ("samples", include_str!("../../../library/samples.txt")),
 ];
 
 pub fn all(tally: &mut Tally) {

@@ -1,13 +1,14 @@
 //! Byte forms of wrong lengths, or with a mark or a zero that is another number: each is refused by its number, in the
 //! operation's order of tests.
 
-use crate::desk::{self, Place, HALTED, INPUT, UNANSWERED, UNREAD, WORD};
+use crate::desk::{self, Place, HALTED, INPUT, SAMPLE, UNANSWERED, UNREAD, WORD};
 use crate::session_trials::small_session;
 use crate::tally::Tally;
 use second::dice::{record, rule};
-use second::ResultOf;
+use second::{ResultOf, Word};
 
-/// A list of reports that is long enough.
+/// How many samples are lent, and a list of reports that is long enough.
+const SAMPLES: usize = 3;
 const REPORTS: usize = 180;
 
 const WRONG_LENGTH: u8 = 255;
@@ -44,6 +45,8 @@ struct Lent {
     lows: Vec<u8>,
     highs: Vec<u8>,
     reports: Vec<u32>,
+    samples: Vec<Word>,
+    sample_answers: Vec<Place>,
 }
 
 /// The number that an export answers, and whether a refused call left what it was lent as it was, but for a work list and
@@ -55,11 +58,12 @@ fn answers(tally: &mut Tally, what: &str, told: Told, number: u8) {
     tally.same(what, told, (number, true));
 }
 
-const CALLS: [(&str, Call); 6] = [
+const CALLS: [(&str, Call); 7] = [
     ("open", Lent::open),
     ("fits", Lent::fits),
     ("evaluate", Lent::evaluate),
     ("read", Lent::read),
+    ("read_all", Lent::read_all),
     ("run", Lent::run),
     ("spans", Lent::spans),
 ];
@@ -87,6 +91,8 @@ impl Lent {
             lows: desk::numbers_bytes(&[7; 16]),
             highs: desk::numbers_bytes(&[7; 16]),
             reports: desk::unreported(REPORTS),
+            samples: vec![0; SAMPLES * SAMPLE],
+            sample_answers: desk::unread_samples(SAMPLES),
         }
     }
 
@@ -111,6 +117,9 @@ impl Lent {
             // input 1 is the free word
             lent.lows[WORD] = 8;
             lent.reports.clear();
+            lent.samples[0] = 2;
+            lent.samples.pop();
+            lent.sample_answers.pop();
         })
     }
 
@@ -149,6 +158,22 @@ impl Lent {
                 &lent.result,
                 &mut lent.work,
                 &mut lent.reading,
+            );
+            assert!(lent.work.iter().all(|&n| n == 0));
+            lent.work.clone_from(&self.work);
+            number
+        })
+    }
+
+    fn read_all(&self) -> Told {
+        self.call(|lent| {
+            let number = desk::read_all(
+                &lent.session,
+                &lent.table,
+                &lent.result,
+                &lent.samples,
+                &mut lent.work,
+                &mut lent.sample_answers,
             );
             assert!(lent.work.iter().all(|&n| n == 0));
             lent.work.clone_from(&self.work);
@@ -199,11 +224,12 @@ fn lengths(tally: &mut Tally, good: &Lent, lent: &Lent) {
     };
     for length in other_lengths(good.session.len()) {
         let other = lent.but(|lent| lent.session.resize(length, 0));
-        let calls: [Call; 5] = [
+        let calls: [Call; 6] = [
             Lent::open,
             Lent::fits,
             Lent::evaluate,
             Lent::read,
+            Lent::read_all,
             Lent::spans,
         ];
         wrong(tally, "session's length", other, &calls);
@@ -218,7 +244,8 @@ fn lengths(tally: &mut Tally, good: &Lent, lent: &Lent) {
     }
     for length in other_lengths(good.result.len()) {
         let other = lent.but(|lent| lent.result.resize(length, 0));
-        wrong(tally, "result's length", other, &[Lent::read]);
+        let calls: [Call; 2] = [Lent::read, Lent::read_all];
+        wrong(tally, "result's length", other, &calls);
     }
     for length in other_lengths(good.reading.len()) {
         let other = lent.but(|lent| lent.reading.resize(length, 0xa5));
@@ -253,6 +280,7 @@ fn zeros(tally: &mut Tally, good: &Lent, other: u8) {
     misfit(tally, "session's zero", &session);
     let result = good.but(|lent| lent.result[7] = other);
     answers(tally, "result's zero", result.read(), 14);
+    answers(tally, "result's zero", result.read_all(), 14);
 }
 
 fn marks(tally: &mut Tally, good: &Lent, other: u8) {
@@ -261,9 +289,11 @@ fn marks(tally: &mut Tally, good: &Lent, other: u8) {
     if other == 1 {
         answers(tally, "session's mark", session.fits(), 0);
         answers(tally, "result's mark", result.read(), 0);
+        answers(tally, "result's mark", result.read_all(), 0);
     } else {
         misfit(tally, "session's mark", &session);
         answers(tally, "result's mark", result.read(), 14);
+        answers(tally, "result's mark", result.read_all(), 14);
     }
 }
 
@@ -271,15 +301,17 @@ fn misfit(tally: &mut Tally, what: &str, session: &Lent) {
     answers(tally, what, session.fits(), 3);
     answers(tally, what, session.evaluate(), 3);
     answers(tally, what, session.read(), 3);
+    answers(tally, what, session.read_all(), 3);
     answers(tally, what, session.spans(), 3);
 }
 
-/// Every other value of every byte of a session: the reports are refused where test 3 refuses it.
+/// Every other value of every byte of a session: reports and readings of samples are refused where test 3 refuses it.
 fn session_bytes(tally: &mut Tally, good: &Lent) {
     for at in 0..good.session.len() {
         for other in 0..=255 {
             let lent = good.but(|lent| lent.session[at] = other);
             answers(tally, "a session's byte", lent.spans(), lent.fits().0);
+            answers(tally, "a session's byte", lent.read_all(), lent.fits().0);
         }
     }
 }
@@ -304,6 +336,11 @@ fn orders(tally: &mut Tally, good: &Lent) {
     let formed = numbered.but(|lent| lent.result.clone_from(&good.result));
     answers(tally, "read: then 15", formed.read(), 15);
 
+    answers(tally, "read_all: 3 first", all.read_all(), 3);
+    answers(tally, "read_all: 3 of the table", unfitting.read_all(), 3);
+    answers(tally, "read_all: then 14", fitting.read_all(), 14);
+    sample_lists(tally, good, &formed);
+
     answers(tally, "run: 2 first", all.run(), 2);
     let taken = all.but(|lent| lent.inputs.clone_from(&good.inputs));
     answers(tally, "run: then 13", taken.run(), 13);
@@ -317,4 +354,16 @@ fn orders(tally: &mut Tally, good: &Lent) {
     answers(tally, "spans: then 17", fitting.spans(), 17);
     let spanned = fitting.but(|lent| lent.lows.clone_from(&good.lows));
     answers(tally, "spans: then 15", spanned.spans(), 15);
+}
+
+/// Each of the three reasons for 15 is there until its list is a good one; what is left then, a sample that 13 refuses, stops
+/// no call.
+fn sample_lists(tally: &mut Tally, good: &Lent, formed: &Lent) {
+    answers(tally, "read_all: then 15", formed.read_all(), 15);
+    let worked = formed.but(|lent| lent.work.clone_from(&good.work));
+    answers(tally, "read_all: 15 of numbers", worked.read_all(), 15);
+    let whole = worked.but(|lent| lent.samples.push(0));
+    answers(tally, "read_all: 15 of answers", whole.read_all(), 15);
+    let answered = whole.but(|lent| lent.sample_answers.clone_from(&good.sample_answers));
+    answers(tally, "read_all: 13 stops no call", answered.read_all(), 0);
 }

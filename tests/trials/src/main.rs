@@ -1,9 +1,10 @@
 //! Compares the desk's exports and the printing program with the second evaluator, byte for byte, and the lines of the
 //! library's examples with those wanted. `faults` tries whether faults in the second evaluator are noticed by the trials at
 //! the limits; `limits` with the name of a group makes those of the group alone. `figures` takes times, counts terms and
-//! tries an evaluation in 1 MiB of stack; `bench`, `scopes`, `small`, `speed`, `terms`, `spans` and `stack` with a number of
-//! KiB are its parts.
+//! tries an evaluation in 1 MiB of stack; `bench`, `scopes`, `small`, `speed`, `terms`, `spans`, `samples` and `stack` with a
+//! number of KiB are its parts.
 
+mod any_table;
 mod bench;
 mod choices;
 mod compare;
@@ -22,6 +23,8 @@ mod prints;
 mod rule_trials;
 mod rules;
 mod run_trials;
+mod sample_speed;
+mod sample_trials;
 mod scope_speed;
 mod session_trials;
 mod shapes;
@@ -47,6 +50,7 @@ fn main() {
             speed::run();
             speed::terms();
             span_speed::run();
+            sample_speed::run();
             return stack::run(1_024);
         }
         ["bench"] => return bench::run(),
@@ -55,6 +59,7 @@ fn main() {
         ["speed"] => return speed::run(),
         ["terms"] => return speed::terms(),
         ["spans"] => return span_speed::run(),
+        ["samples"] => return sample_speed::run(),
         ["stack", kibibytes] => return stack::run(kibibytes.parse().expect("a number")),
         ["faults"] => return faults::run(),
         ["limits", group] => return tell(&limits::group(group).expect("a group of limits")),

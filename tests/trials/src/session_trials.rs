@@ -146,3 +146,19 @@ pub fn other_sessions(good: Session) -> Vec<Session> {
     }
     sessions
 }
+
+/// Another byte of the table or another number of the session.
+pub fn damage(dice: &mut Dice, session: &mut Session, table: &mut [u8]) {
+    let number = dice.below(u64::from(session.count) + 2) as u16;
+    match dice.below(8) {
+        0 => session.count = number,
+        1 => session.s = number,
+        2 => session.t = number,
+        3 => session.accepted = dice.pick(&[0, 1, 999, 1_000, 1_001]),
+        _ => {
+            let used = 8 * u64::from(session.count) + 8;
+            let at = dice.below(used.min(table.len() as u64)) as usize;
+            table[at] = dice.pick(&[0, 1, 2, 3, 5, 6, 8, 17, 34, 255]);
+        }
+    }
+}

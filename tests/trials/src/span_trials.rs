@@ -4,11 +4,11 @@ use crate::compare::compare_spans;
 use crate::desk::REPORT;
 use crate::kept::Kept;
 use crate::made::{word_input, FREE_TRUTH, FREE_WORD};
-use crate::session_trials::{other_sessions, small_session};
+use crate::session_trials::{damage, other_sessions, small_session};
 use crate::tally::Tally;
 use crate::tree::{bind, error, operator, place, test, word, Tree};
 use second::dice::Dice;
-use second::{evaluate, open, read_all, Input, Outcome, Session, Spans};
+use second::{evaluate, open, term_readings, Input, Outcome, Session, Spans};
 
 /// A truth that can only be true.
 const ONLY_TRUE: [u32; REPORT] = [1, 1, 1];
@@ -50,22 +50,6 @@ fn lists(tally: &mut Tally, dice: &mut Dice, session: &Session, table: &[u8]) {
     }
 }
 
-/// Another byte of the table or another number of the session.
-fn damage(dice: &mut Dice, session: &mut Session, table: &mut [u8]) {
-    let number = dice.below(u64::from(session.count) + 2) as u16;
-    match dice.below(8) {
-        0 => session.count = number,
-        1 => session.s = number,
-        2 => session.t = number,
-        3 => session.accepted = dice.pick(&[0, 1, 999, 1_000, 1_001]),
-        _ => {
-            let used = 8 * u64::from(session.count) + 8;
-            let at = dice.below(used.min(table.len() as u64)) as usize;
-            table[at] = dice.pick(&[0, 1, 2, 3, 5, 6, 8, 17, 34, 255]);
-        }
-    }
-}
-
 /// "Every reading within the spans must lie in what is reported"
 fn readings(tally: &mut Tally, dice: &mut Dice, session: &Session, table: &[u8]) {
     let given = dice.spans(&session.inputs);
@@ -73,7 +57,7 @@ fn readings(tally: &mut Tally, dice: &mut Dice, session: &Session, table: &[u8])
     let (_, list) = compare_spans(tally, session, table, &given, right);
     for _ in 0..3 {
         let numbers = dice.numbers_in(&session.inputs, &given);
-        let readings = read_all(session, table, &numbers).expect("readings");
+        let readings = term_readings(session, table, &numbers).expect("readings");
         let outside = list
             .chunks_exact(REPORT)
             .zip(&readings)

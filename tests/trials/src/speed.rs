@@ -52,15 +52,25 @@ fn now() -> f64 {
 /// A piece of work that is timed, on a copy of where it starts.
 pub type Work<'a, T> = &'a mut dyn FnMut(&mut T);
 
-/// The least time of each work, of so many runs in a turn; the works take turns. Each turn works on its own copy, which is
-/// made before.
+/// The least time of each work, of so many runs in a turn; the works take turns, 100 of them. Each turn works on its own
+/// copy, which is made before.
 pub fn least_times<T: Clone, const N: usize>(
+    runs: usize,
+    start: &T,
+    works: [Work<T>; N],
+) -> [f64; N] {
+    least_of(100, runs, start, works)
+}
+
+/// The same of so many turns.
+pub fn least_of<T: Clone, const N: usize>(
+    turns: usize,
     runs: usize,
     start: &T,
     mut works: [Work<T>; N],
 ) -> [f64; N] {
     let mut best = [f64::MAX; N];
-    for _ in 0..100 {
+    for _ in 0..turns {
         for (best, work) in best.iter_mut().zip(&mut works) {
             let mut copy = start.clone();
             let begun = now();
@@ -332,14 +342,20 @@ fn floor(term: Record) -> usize {
 
 /// Guarded updates inside one another in one rule.
 fn nested(updates: u16) -> Chain {
-    let mut inputs = [Input { kind: 2, value: 0 }; 16];
-    inputs[15].kind = 3;
     let name = format!("{updates} nested updates");
-    Chain::new(name, &inputs, vec![nested_updates(updates)])
+    Chain::new(name, &nested_inputs(), vec![nested_updates(3, updates)])
 }
 
-/// k more where the guard holds, under a let for k and one for the sum; the guards are places 0 to 14 in turn.
-fn nested_updates(updates: u16) -> Vec<u8> {
+/// Free truths, and a free word as the last input.
+pub fn nested_inputs() -> [Input; 16] {
+    let mut inputs = [Input { kind: 2, value: 0 }; 16];
+    inputs[15].kind = 3;
+    inputs
+}
+
+/// k more where the guard holds, under a let for k and one for the sum, from the first k on; the guards are places 0 to 14 in
+/// turn.
+pub fn nested_updates(first: u16, updates: u16) -> Vec<u8> {
     let mut list = Vec::new();
     for n in 0..updates {
         let at = list.len() as u16;
@@ -347,7 +363,7 @@ fn nested_updates(updates: u16) -> Vec<u8> {
         let before = if n == 0 { bindings + 15 } else { 1 };
         list.extend([
             record(6, 0, at + 1, at + 2, 0),
-            record(1, 2, n + 3, 0, 0),
+            record(1, 2, first + n, 0, 0),
             record(6, 0, at + 3, at + 6, 0),
             record(7, 0, bindings + n % 15, at + 4, at + 5),
             record(5, 1, before, 0, 0),
@@ -360,11 +376,17 @@ fn nested_updates(updates: u16) -> Vec<u8> {
 
 /// Guarded updates rule after rule.
 fn in_turn(updates: u16) -> Chain {
+    let rules = (0..updates).map(|n| guarded_update(3 + n)).collect();
+    let name = format!("{updates} updates in turn");
+    Chain::new(name, &in_turn_inputs(), rules)
+}
+
+/// A free truth, a free word, and constants.
+pub fn in_turn_inputs() -> [Input; 16] {
     let mut inputs = [Input { kind: 0, value: 0 }; 16];
     inputs[0].kind = 2;
     inputs[1].kind = 3;
-    let rules = (0..updates).map(|n| guarded_update(3 + n)).collect();
-    Chain::new(format!("{updates} updates in turn"), &inputs, rules)
+    inputs
 }
 
 /// Readings multiplied by switches, every other one 0: each product below a limit is added.

@@ -3,7 +3,7 @@
 use crate::compare::compare_open;
 use crate::tally::Tally;
 use crate::{evaluations, form_trials, limits, long_rules, rule_trials, run_trials};
-use crate::{session_trials, span_trials, vectors};
+use crate::{sample_trials, session_trials, span_trials, vectors};
 use second::dice::Dice;
 use second::{Input, Word};
 
@@ -17,6 +17,7 @@ pub fn all() -> Tally {
     form_trials::all(&mut tally);
     evaluations::all(&mut tally);
     span_trials::all(&mut tally);
+    sample_trials::all(&mut tally);
     vectors::all(&mut tally);
     limits::all(&mut tally);
     for (operation, answers) in ANSWERS {
@@ -28,7 +29,7 @@ pub fn all() -> Tally {
 }
 
 /// Every answer that some trial must have had.
-const ANSWERS: [(&str, &[u8]); 7] = [
+const ANSWERS: [(&str, &[u8]); 9] = [
     ("open", &[0, 1, 2]),
     ("rule", &[0, 4, 5, 6, 7]),
     ("fits", &[0, 3]),
@@ -38,6 +39,8 @@ const ANSWERS: [(&str, &[u8]); 7] = [
         &[2, 4, 5, 6, 7, 8, 12, 13, 16, 101, 102, 107, 108, 109],
     ),
     ("read", &[3, 13, 14, 15, 101, 102, 107, 108, 109]),
+    ("read_all", &[0, 3, 14, 15]),
+    ("sample", &[13, 101, 102, 107, 108, 109]),
     ("spans", &[0, 3, 15, 17]),
 ];
 

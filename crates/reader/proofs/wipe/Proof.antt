@@ -6,7 +6,7 @@ use mathlib.Core.List.{_++_}
 use Prim.Native.Nat.{_-_, _≤_}
 use lib.ListN.{length, drop, replicate}
 use native.Mathlib.Omega.{arith}
-use Rattle.reader.proofs.Work.{wipe-next, wipe-end}
+use Rattle.reader.proofs.Held.{wipe-next, wipe-end}
 use Rattle.reader.proofs.wipe.Statement.{statement}
 use Rattle.reader.proofs.wipe.Tie as tie
 

@@ -14,6 +14,7 @@ mod orders;
 mod prints;
 mod readings;
 mod rule_records;
+mod samples;
 mod spans;
 mod stores;
 mod terms;
@@ -25,7 +26,7 @@ use crate::tally::Tally;
 
 type Group = (&'static str, fn(&mut Tally));
 
-const GROUPS: [Group; 15] = [
+const GROUPS: [Group; 16] = [
     ("openings", openings::all),
     ("rule_records", rule_records::all),
     ("fitting", fitting::all),
@@ -37,6 +38,7 @@ const GROUPS: [Group; 15] = [
     ("folds", folds::all),
     ("operators", operators::all),
     ("readings", readings::all),
+    ("samples", samples::all),
     ("spans", spans::all),
     ("stores", stores::all),
     ("orders", orders::all),
@@ -67,4 +69,9 @@ fn fits(tally: &mut Tally, made: &Made) -> u8 {
 
 fn evaluate(tally: &mut Tally, made: &Made, rule: &[u8], allowance: u16) -> u8 {
     Pair::of(made.session, made.table.clone()).refusal(tally, rule, allowance)
+}
+
+/// The first of the refusals that are there, or 0.
+fn first(refusals: &[Option<u8>]) -> u8 {
+    refusals.iter().flatten().next().copied().unwrap_or(0)
 }

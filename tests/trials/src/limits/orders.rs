@@ -1,6 +1,6 @@
 //! "Tests are made in the order written.": arguments that several tests refuse.
 
-use super::evaluate;
+use super::{evaluate, first};
 use crate::compare::{compare_read, compare_run};
 use crate::made::{Made, FALSE, FREE_TRUTH};
 use crate::tally::Tally;
@@ -11,11 +11,6 @@ pub fn all(tally: &mut Tally) {
     evaluations(tally);
     readings(tally);
     runs(tally);
-}
-
-/// The first of the refusals that are there, or 0.
-fn first(refusals: &[Option<u8>]) -> u8 {
-    refusals.iter().flatten().next().copied().unwrap_or(0)
 }
 
 fn record_of(kind: u8, p: u16) -> Record {

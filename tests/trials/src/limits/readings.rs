@@ -55,7 +55,7 @@ fn numbers(tally: &mut Tally) {
 }
 
 /// The terms, and numbers at and past the count, which no test of a result takes, as bindings.
-fn numbers_of_terms() -> impl Iterator<Item = (u16, Sort)> {
+pub fn numbers_of_terms() -> impl Iterator<Item = (u16, Sort)> {
     let past = [LAST + 1, LAST + 2, 39, 40, 65_535];
     let past = past.map(|number| (number, Sort::Binding));
     TERMS.into_iter().chain(past)

@@ -1,0 +1,3 @@
+mod Marked
+mod Lists
+mod Answers
