@@ -9,3 +9,4 @@ pub mod Ends
 pub mod Listed
 pub mod SpansHold
 pub mod NoReadingErrs
+pub mod SamplesTold

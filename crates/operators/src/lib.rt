@@ -48,7 +48,7 @@ const OPERATORS: [u8; CODES] = [
 ];
 
 // A truth as a number.
-fn bit(b: bool) -> Word
+pub fn bit(b: bool) -> Word
     ensures { λ r. ⌜ r ≡ bitOf b ⌝ }
 {
     if b { 1 } else { 0 }

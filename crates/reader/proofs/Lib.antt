@@ -1,4 +1,4 @@
-pub mod Tests
+pub mod Formulas
 pub mod Taken
 pub mod Held
 pub mod Work

@@ -147,15 +147,14 @@ pub fn term_reading(t: Term, numbers: [Word; 16], held: &[Place]) -> Reading
     }
 }
 
-// A choice: b if a, else c.
+// A choice: b if a, else c. Both sides are looked up, so that no jump hangs on the guard.
 fn choice_reading(t: Term, held: &[Place]) -> Reading
     ensures { λ r. ⌜ r ≡ (if isTrue (heldReading (now (held .entry)) (t .a)) then heldReading (now (held .entry)) (t .b) else heldReading (now (held .entry)) (t .c)) ⌝ }
 {
-    if is_true(held_reading(held, t.a)) {
-        held_reading(held, t.b)
-    } else {
-        held_reading(held, t.c)
-    }
+    let guard = held_reading(held, t.a);
+    let first = held_reading(held, t.b);
+    let other = held_reading(held, t.c);
+    if is_true(guard) { first } else { other }
 }
 
 // The number of an input; 0 past the last.
@@ -169,19 +168,25 @@ pub fn number(numbers: [Word; 16], i: u16) -> Word
     }
 }
 
-// An operator term, by its code; false for what is no code.
+// An operator term, by its code; false for what is no code. And, or and not, of which a table has most, come first.
 fn operator_reading(op: u8, x: Reading, y: Reading) -> Reading
     ensures { λ r. ⌜ r ≡ operatorReading op x y ⌝ }
 {
+    if op == numbers::CONJUNCTION_CODE {
+        return truth_reading(conjunction(x, y));
+    }
+    if op == numbers::DISJUNCTION_CODE {
+        return truth_reading(disjunction(x, y));
+    }
+    if op == numbers::NEGATION_CODE {
+        return truth_reading(negation(x));
+    }
     if op < numbers::NOT_CODE {
         return operation_reading(op, x, y);
     }
     match op {
         numbers::IS_WORD_CODE => truth_reading(is_word(x)),
         numbers::IS_PROCEDURE_CODE => truth_reading(x.sort == numbers::PROCEDURE_TERM),
-        numbers::NEGATION_CODE => truth_reading(negation(x)),
-        numbers::CONJUNCTION_CODE => truth_reading(conjunction(x, y)),
-        numbers::DISJUNCTION_CODE => truth_reading(disjunction(x, y)),
         numbers::TRUTH_CODE => if x.sort == 0 {
             truth_reading(false)
         } else {
@@ -233,54 +238,34 @@ fn result_reading(op: u8, w: Word) -> Reading
     }
 }
 
-// True of false alone.
+// True of false alone. This and the next two look at all parts of their tests, so that no jump hangs on what a formula's
+// terms read as, which changes from sample to sample.
 fn negation(x: Reading) -> bool
     ensures { λ r. ⌜ r ≡ (isTruth x && not (isTrue x)) ⌝ }
 {
-    if is_truth(x) {
-        if is_true(x) { false } else { true }
-    } else {
-        false
-    }
+    is_truth(x) & !is_true(x)
 }
 
 // False where an operand is no truth.
 fn conjunction(x: Reading, y: Reading) -> bool
     ensures { λ r. ⌜ r ≡ (isTrue x && isTrue y) ⌝ }
 {
-    if is_true(x) { is_true(y) } else { false }
+    is_true(x) & is_true(y)
 }
 
 // False where an operand is no truth, though the other be true.
 fn disjunction(x: Reading, y: Reading) -> bool
     ensures { λ r. ⌜ r ≡ ((isTruth x && isTruth y) && (isTrue x || isTrue y)) ⌝ }
 {
-    if are_truths(x, y) {
-        if is_true(x) { true } else { is_true(y) }
-    } else {
-        false
-    }
-}
-
-fn are_truths(x: Reading, y: Reading) -> bool
-    ensures { λ r. ⌜ r ≡ (isTruth x && isTruth y) ⌝ }
-{
-    if is_truth(x) { is_truth(y) } else { false }
+    is_truth(x) & is_truth(y) & (is_true(x) | is_true(y))
 }
 
 fn truth_reading(b: bool) -> Reading
     ensures { λ r. ⌜ r ≡ truthReading b ⌝ }
 {
-    if b {
-        Reading {
-            sort: numbers::TRUTH_TERM,
-            number: 1,
-        }
-    } else {
-        Reading {
-            sort: numbers::TRUTH_TERM,
-            number: 0,
-        }
+    Reading {
+        sort: numbers::TRUTH_TERM,
+        number: operators::bit(b),
     }
 }
 

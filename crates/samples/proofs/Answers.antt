@@ -3,7 +3,7 @@ use mathlib.Core.Path.{_≡_, sym, ap, _∙_}
 use mathlib.Core.List.{List, map}
 use Prim.Native.Nat.{ℕ, _*_, _/_}
 use native.Mathlib.Omega.{arith}
-use lib.ListN.{length, getD, replicate, length-map}
+use lib.ListN.{length, replicate, length-map}
 use lib.Seq.{ext-getD}
 use borrow.Author.Tests.{le-ltb, ne-eqb}
 use Rattle.notation.specs.Notation.{if_equals_then_else_, if_below_then_else_, unless_then_else_}

@@ -207,11 +207,7 @@ fn answer_place(o: Outcome) -> Place
     ensures { λ r. ⌜ r ≡ answerPlace o ⌝ }
 {
     match o {
-        Outcome::Truth(b) => if b {
-            place(numbers::TRUTH_TERM, 1)
-        } else {
-            place(numbers::TRUTH_TERM, 0)
-        },
+        Outcome::Truth(b) => place(numbers::TRUTH_TERM, operators::bit(b)),
         Outcome::Word(w) => place(numbers::WORD_TERM, w),
         Outcome::Procedure(i) => place(numbers::PROCEDURE_TERM, i),
         Outcome::Abort => place(numbers::ABORT_RECORD, 0),

@@ -9,8 +9,8 @@ use Rattle.notation.specs.Notation.{pick}
 use Rattle.semantics.specs.declared.Input.{Input}
 use Rattle.semantics.specs.declared.Term.{Term}
 use Rattle.semantics.specs.declared.Result.{Result}
-use Rattle.semantics.specs.declared.Outcome.the-variants.{Truth, Word, Error, Refused}
-use Rattle.semantics.specs.Numbers.{truthTerm, wordTerm, freeTruthTerm, freeWordTerm, operatorTerm, choiceTerm, procedureTerm, bindingTerm, addCode, negationCode, conjunctionCode, constantTruth, freeTruth, freeWord, noBinding, misfit, badNumber, badResult, workShort}
+use Rattle.semantics.specs.declared.Outcome.the-variants.{Truth, Word, Procedure, Abort, Error, Refused}
+use Rattle.semantics.specs.Numbers.{truthTerm, freeTruthTerm, freeWordTerm, operatorTerm, choiceTerm, procedureTerm, bindingTerm, addCode, negationCode, conjunctionCode, constantTruth, freeTruth, freeWord, noBinding, misfit, badNumber, badResult, workShort}
 use Rattle.semantics.proofs.Computing.{computing}
 use Rattle.semantics.specs.Terms as Terms
 use Rattle.semantics.specs.Opening as Opening
@@ -82,7 +82,8 @@ pub record SampleInstances : Type 0 where
   pub under-a-halt : underIn (resultOf 1 7 12 true) ≡ 7 ∷ 2 ∷ 1 ∷ []
   -- "In the bales' order, the answers hold just what single readings would give, a refusal by 13 included"
   pub four-samples : readAll count result four count 4 ≡ (0, replicate count 0, map Samples.answerPlace (Word 5 ∷ Error ∷ Refused badNumber ∷ Word 8 ∷ []))
-  pub as-numbers : map Samples.answerPlace (Word 5 ∷ Error ∷ Refused badNumber ∷ Truth true ∷ []) ≡ 131077 ∷ 589824 ∷ 13 ∷ 65537 ∷ []
+  pub as-numbers : map Samples.answerPlace (Truth false ∷ Truth true ∷ Word 5 ∷ Procedure 4 ∷ Abort ∷ Error ∷ Refused badNumber ∷ [])
+      ≡ 65536 ∷ 65537 ∷ 131077 ∷ 458756 ∷ 524288 ∷ 589824 ∷ 13 ∷ []
   pub no-samples : readAll count result [] count 0 ≡ (0, replicate count 0, [])
   -- "Refusals 3, 14 and 15 come first and stop the whole call"
   pub misfit-first : readAll (count - 1) (resultOf 1 2 2 false) four 0 4 ≡ (misfit, [], list 4)

@@ -1,8 +1,7 @@
 -- `reader::result_taken` meets its contract. Assumes nothing.
 use borrow.Author.Needs.{needs}
-use Rattle.notation.proofs.Follow.{values}
 use Rattle.semantics.specs.Reading.{resultTaken}
-use Rattle.reader.proofs.Tests.{tests}
+use Rattle.notation.proofs.Follow.{tests}
 use Rattle.reader.proofs.result_taken.Statement.{statement}
 use Rattle.reader.proofs.result_taken.Tie as tie
 
@@ -10,5 +9,5 @@ pub result-taken-spec : {M : Type 1} → statement M
 unfolding resultTaken
 result-taken-spec =
     tie.close
-    (tie.spec (λ c κs. search needs) (λ c κs. search needs) (λ c κs. search needs) (λ c. search (values, tests)) (λ c. search (values, tests))
-    (λ c. search (values, tests)) (λ c. search (values, tests)))
+    (tie.spec (λ c κs. search needs) (λ c κs. search needs) (λ c κs. search needs) (λ c. search tests) (λ c. search tests)
+    (λ c. search tests) (λ c. search tests))
