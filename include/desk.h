@@ -35,6 +35,10 @@
  *  255 a session, numbers (but those of bales), lows, highs, a result, or the place of an answer or a reading, of another
  *      length than its form has
  *
+ * The operators of a rule are those of document 01 with the shifts of document 02: a shift by 16 or more gives 0, to the
+ * left and to the right, where its term is made, where it is read and in a plain run. A session that a library without
+ * these shifts wrote is opened anew: its table has shifts of constants worked out with the amount modulo 16.
+ *
  * Each function names its numbers below in the order in which they are tested. crates/forms/specs has the forms, and the
  * specs of crates/byte_opening, byte_fitting and so on each function's answer and every byte that it leaves, as definitions;
  * the functions are proved equal to them on all arguments.

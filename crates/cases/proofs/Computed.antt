@@ -13,5 +13,5 @@ pub record Computed : Type 0 where
   pub printed-case : Print.printedOf Marked.printedInput ≡ Marked.printedLines
 
 pub computed : Computed
-unfolding computing Table.alike Table.allHold Table.desk Table.answer Table.reading Marked.marked Marked.printedInput Marked.printedLines
+unfolding computing Table.alike Table.allHold Table.desk Table.answer Table.reading Table.running Marked.marked Marked.printedInput Marked.printedLines
 computed = record { marked-hold = refl; printed-case = refl }

@@ -1,13 +1,13 @@
--- Document 01's marked cases P1 to P10, one table, and its printed case. Assumes nothing.
+-- Document 01's marked cases P1 to P10, one table, P5 as document 02, Five, has it; and the printed case. Assumes nothing.
 use Prim.Native.Nat.{ℕ, _-_}
 use mathlib.Core.List.{List, [], _∷_, _++_}
 use lib.ListN.{replicate}
 use Rattle.words.specs.Words.{width, lastWord}
 use Rattle.semantics.specs.declared.Input.{Input}
-use Rattle.semantics.specs.Numbers.{constantTruth, constantWord, freeTruth, datumRecord, variableRecord, procedureRecord, callRecord, operatorRecord, letRecord, ifRecord, errorRecord, trueDatum, wordDatum, wordTerm, badPlace, depthSpent, mostTable}
+use Rattle.semantics.specs.Numbers.{constantTruth, constantWord, freeTruth, freeWord, datumRecord, variableRecord, procedureRecord, callRecord, operatorRecord, letRecord, ifRecord, errorRecord, trueDatum, wordDatum, wordTerm, badPlace, depthSpent, mostTable}
 use Rattle.semantics.specs.Print.{Line, out, numbers, inputBytes, printAllowance}
-use Rattle.semantics.specs.History.{History}
-use Rattle.cases.specs.Table.{Case, case, input, bytes, call, desk, answer, reading}
+use Rattle.semantics.specs.History.{Call, History}
+use Rattle.cases.specs.Table.{Case, case, input, bytes, call, desk, answer, reading, running}
 
 -- the other inputs: n of them, constant false
 abbrev pub falses : ℕ → List Input
@@ -37,9 +37,20 @@ abbrev pub selfApplication : List ℕ
 selfApplication =
     bytes letRecord 0 1 3 0 (bytes procedureRecord 0 2 0 0 (bytes callRecord 0 0 0 0 (bytes callRecord 0 0 0 0 [])))
 
+-- an operator on inputs 0 and 1
+abbrev pub onTwo : ℕ → Call
+onTwo op = call (bytes operatorRecord op 0 1 0 []) 1
+
+-- two words as inputs 0 and 1, and two free words
+abbrev pub twoWords : ℕ → ℕ → List Input
+twoWords x y = input constantWord x ∷ input constantWord y ∷ falses 14
+
+abbrev pub twoFree : List Input
+twoFree = input freeWord 0 ∷ input freeWord 0 ∷ falses 14
+
 -- an operator on two words, in a rule whose inputs 0 and 1 they are
 abbrev pub operation : ℕ → ℕ → ℕ → History
-operation op x y = desk (input constantWord x ∷ input constantWord y ∷ falses 14) 1024 (call (bytes operatorRecord op 0 1 0 []) 1 ∷ [])
+operation op x y = desk (twoWords x y) 1024 (onTwo op ∷ [])
 
 -- an operator on one word, in a rule whose input 0 it is
 abbrev pub operationOnOne : ℕ → ℕ → History
@@ -61,8 +72,10 @@ marked =
     ∷ case (reading (operation 1 lastWord 1) (firstNumber 0)) (0 ∷ wordTerm ∷ 0 ∷ [])
     -- P4: leading zeros of 0 is 16
     ∷ case (reading (operationOnOne 10 0) (firstNumber 0)) (0 ∷ wordTerm ∷ width ∷ [])
-    -- P5: 1 shifted left by 16 is 1
-    ∷ case (reading (operation 7 1 width) (firstNumber 0)) (0 ∷ wordTerm ∷ 1 ∷ [])
+    -- P5: 1 shifted left by 16 is 0, "in terms, in readings and in plain runs alike"
+    ∷ case (reading (operation 7 1 width) (firstNumber 0)) (0 ∷ wordTerm ∷ 0 ∷ [])
+    ∷ case (reading (desk twoFree 1024 (onTwo 7 ∷ [])) (1 ∷ width ∷ replicate 14 0)) (0 ∷ wordTerm ∷ 0 ∷ [])
+    ∷ case (running (twoWords 1 width) (firstNumber 0) (onTwo 7)) (0 ∷ wordTerm ∷ 0 ∷ [])
     -- P6: a datum at allowance 1 is accepted
     ∷ case (answer plainDesk (call (bytes datumRecord trueDatum 0 0 0 []) 1)) (0 ∷ 1 ∷ 1 ∷ 1 ∷ 0 ∷ 1 ∷ [])
     -- P7: a let at 1 is refused, 12

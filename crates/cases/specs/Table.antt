@@ -8,6 +8,7 @@ use Rattle.semantics.specs.declared.Input.{Input}
 use Rattle.semantics.specs.Opening.{openOf}
 use Rattle.semantics.specs.Evaluate.{evaluateOf}
 use Rattle.semantics.specs.Reading.{readOf}
+use Rattle.semantics.specs.PlainRun.{runPlainlyOf}
 use Rattle.semantics.specs.History.{Call, History, begun, calledAll}
 use Rattle.forms.specs.Answers.{answerValues, outcomeValues}
 
@@ -54,3 +55,7 @@ answer h k = answerValues (evaluateOf (k .rule) (k .allowance) (h .session) (h .
 -- the last accepted result, read under these numbers with a work list as long as the count
 unfoldable pub reading : History → List ℕ → List ℕ
 reading h ns = outcomeValues (readOf (h .session) (h .table) ns (h .result) (replicate (h .session .count) 1) .0)
+
+-- a rule run plainly, over these inputs and numbers, with a store for the inputs' places alone
+unfoldable pub running : List Input → List ℕ → Call → List ℕ
+running xs ns k = outcomeValues (runPlainlyOf xs ns (k .rule) (k .allowance) (replicate 128 1) .0)

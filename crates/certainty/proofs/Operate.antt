@@ -1,12 +1,13 @@
 -- What an operator gives on words is a word. Assumes nothing.
 use mathlib.Core.Bool.{Bool, true, false}
-use Prim.Native.Nat.{ℕ, _+_, _-_, _*_, _%_, _^_, _<_}
+use Prim.Native.Nat.{ℕ, _+_, _-_, _*_, _^_, _<_}
 use native.Mathlib.Omega.{arith}
 use lib.Dec.{eqb, ltb}
 use lib.Bits.{and-lt, or-lt, xor-lt}
 use Rattle.notation.specs.Notation.{pick, if_equals_then_else_}
 use Rattle.words.specs.Words.{width, wordLimit}
-use Rattle.words.proofs.Words.{wrapped, right-word, ones-word, zeros-word}
+use Rattle.words.proofs.Words.{wrapped, ones-word, zeros-word}
+use Rattle.words.proofs.Shifts.{left-word, right-word}
 use Rattle.operators.specs.Operators.{bitOf, operateOf}
 use Rattle.soundness.proofs.Link.{bit-small}
 
@@ -26,6 +27,6 @@ operate-word op x y p q =
     pick-below (eqb op 1) _ _ (wrapped width (x + y)) (pick-below (eqb op 2) _ _ (wrapped width (x + (2 ^ width - y))) (
     pick-below (eqb op 3) _ _ (wrapped width (x * y)) (pick-below (eqb op 4) _ _ (and-lt width x y p q) (
     pick-below (eqb op 5) _ _ (or-lt width x y p q) (pick-below (eqb op 6) _ _ (xor-lt width x y p q) (
-    pick-below (eqb op 7) _ _ (wrapped width (x * 2 ^ (y % width))) (pick-below (eqb op 8) _ _ (right-word width y p) (
+    pick-below (eqb op 7) _ _ (left-word width x y) (pick-below (eqb op 8) _ _ (right-word width x y p) (
     pick-below (eqb op 9) _ _ (ones-word width p) (pick-below (eqb op 10) _ _ (zeros-word width x) (
     pick-below (eqb op 11) _ _ (bit-word (ltb x y)) (bit-word (eqb x y))))))))))))

@@ -12,6 +12,7 @@ use Rattle.semantics.specs.declared.Reading.{Reading as Read}
 use Rattle.semantics.specs.declared.Outcome.{Outcome}
 use Rattle.semantics.specs.declared.Outcome.the-variants.{Truth, Word, Error, Refused}
 use Rattle.semantics.specs.Numbers.{datumRecord, variableRecord, procedureRecord, callRecord, operatorRecord, letRecord, ifRecord, abortRecord, errorRecord, falseDatum, wordDatum, multiplyCode, bitwiseAndCode, notCode, negationCode, truthTerm, freeTruthTerm, operatorTerm, procedureTerm, constantTruth, freeTruth, storeFull}
+use Rattle.words.specs.Words.{width}
 use Rattle.semantics.proofs.Computing.{computing}
 use Rattle.semantics.specs.Terms as Terms
 use Rattle.semantics.specs.Opening as Opening
@@ -63,11 +64,14 @@ callOfEither =
 
 -- ---- the rules that are folded
 
--- let x be: if place 0, 5, else 6. Let y be 0. An operator on places p and q, of which 1 is x and 0 is y.
-abbrev withZero : ℕ → ℕ → ℕ → List ℕ
-withZero op p q =
+-- let x be: if place 0, u, else v. Let y be w. An operator on places p and q, of which 1 is x and 0 is y.
+abbrev operated : ℕ → ℕ → ℕ → ℕ → ℕ → ℕ → List ℕ
+operated u v w op p q =
     bytes letRecord 0 1 2 0 (bytes ifRecord 0 0 3 4 (bytes letRecord 0 5 6 0 (
-    bytes datumRecord wordDatum 5 0 0 (bytes datumRecord wordDatum 6 0 0 (bytes datumRecord wordDatum 0 0 0 (bytes operatorRecord op p q 0 []))))))
+    bytes datumRecord wordDatum u 0 0 (bytes datumRecord wordDatum v 0 0 (bytes datumRecord wordDatum w 0 0 (bytes operatorRecord op p q 0 []))))))
+
+abbrev withZero : ℕ → ℕ → ℕ → List ℕ
+withZero = operated 5 6 0
 
 abbrev toZero : ℕ → List ℕ
 toZero op = withZero op 1 0
@@ -90,6 +94,18 @@ fiveOrFive = bytes ifRecord 0 0 1 2 (bytes datumRecord wordDatum 5 0 0 (bytes da
 -- if place 0, place 0, else 5
 abbrev guardOrFive : List ℕ
 guardOrFive = bytes ifRecord 0 0 1 2 (bytes variableRecord 0 0 0 0 (bytes datumRecord wordDatum 5 0 0 []))
+
+-- ---- the rules that shift
+
+-- 255, by the width if place 0, else by 1
+abbrev shifted : ℕ → List ℕ
+shifted op = operated width 1 255 op 0 1
+
+-- 255, by the width
+abbrev shiftedOut : ℕ → List ℕ
+shiftedOut op = operated width width 255 op 0 1
+
+-- ---- terms that the factory folds
 
 -- false, true, the free truth, its not, and the not of that
 abbrev notsOfNots : List Term
@@ -169,6 +185,13 @@ pub record Instances : Type 0 where
   pub not-twice : valueTerm (desk (notTwice ∷ [])) ≡ Terms.term freeTruthTerm 0 0 0 0
   -- 3 is about layout: a table with a not of a not fits
   pub not-twice-laid-out : Terms.wellFormed 0 notsOfNots ≡ true
+  -- document 02, Five: "give zero once the amount reaches the width [..] in terms, in readings and in plain runs alike"
+  pub left-in-terms : valueTerm (desk (shiftedOut 7 ∷ [])) ≡ Terms.wordTermOf 0
+  pub right-in-terms : valueTerm (desk (shiftedOut 8 ∷ [])) ≡ Terms.wordTermOf 0
+  pub left-at-the-width : sides 1 (desk (shifted 7 ∷ [])) ≡ both (Word 0)
+  pub right-at-the-width : sides 1 (desk (shifted 8 ∷ [])) ≡ both (Word 0)
+  pub left-by-one : sides 0 (desk (shifted 7 ∷ [])) ≡ both (Word 510)
+  pub right-by-one : sides 0 (desk (shifted 8 ∷ [])) ≡ both (Word 127)
   -- only what document 01 refuses is refused: eleven rules in turn are accepted
   pub eleven-accepted : desk (replicate 11 (bytes datumRecord falseDatum 0 0 0 [])) .session .accepted ≡ 11
 
@@ -194,5 +217,11 @@ instances =
       equal-sides = refl;
       not-twice = refl;
       not-twice-laid-out = refl;
+      left-in-terms = refl;
+      right-in-terms = refl;
+      left-at-the-width = refl;
+      right-at-the-width = refl;
+      left-by-one = refl;
+      right-by-one = refl;
       eleven-accepted = refl;
     }

@@ -1,2 +1,4 @@
 pub mod Words
+pub mod ShiftInstances
+pub mod Shifts
 pub mod Marked

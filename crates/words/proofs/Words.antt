@@ -5,8 +5,8 @@ use native.Mathlib.Nat.{add-comm, mul-comm, le-of-lt, lt-of-le-of-lt, mul-le-mul
 use native.Mathlib.Omega.{arith}
 use lib.Bits.{and-zero-l, and-zero-r}
 use lib.Count.{ones-le, leading-of-zero, leading-le}
-use lib.Pow.{pow-pos, pow-lt, pow-add, shr-le}
-use Rattle.words.specs.Words.{wordLimit, wordFields, lowOf, highOf, joinOf, sumOf, differenceOf, productOf, andOf, leftOf, rightOf, onesOf, zerosOf}
+use lib.Pow.{pow-pos, pow-lt, pow-add}
+use Rattle.words.specs.Words.{wordLimit, wordFields, lowOf, highOf, joinOf, sumOf, differenceOf, productOf, andOf, onesOf, zerosOf}
 
 -- A word comes back from its fields.
 pub join-halves : (w : ℕ) → joinOf (lowOf w) (highOf w) ≡ w
@@ -47,9 +47,6 @@ module _ (k : ℕ) where
   product-fits {a} {b} ha hb =
       subst⁻¹ (λ (n : ℕ). a * b < n) (pow-add 2 k k)
       (lt-of-le-of-lt (mul-le-mul-left a (le-of-lt hb)) (mul-lt-mul-of-pos-right ha (pow-pos k)))
-
-  pub right-word : {a : ℕ} (b : ℕ) → a < 2 ^ k → rightOf k a b < 2 ^ k
-  right-word {a} b h = lt-of-le-of-lt (shr-le a (b % k)) h
 
   -- The counts of a word's ones and leading zeros are words.
   pub ones-word : {a : ℕ} → a < 2 ^ k → onesOf a < 2 ^ k
@@ -97,10 +94,3 @@ module _ (k : ℕ) where
   -- 0 has as many leading zeros as a word has bits.
   pub zeros-of-zero : zerosOf k 0 ≡ k
   zeros-of-zero = leading-of-zero k
-
-  -- A shift by the width is none.
-  pub left-by-width : (a : ℕ) → a < 2 ^ k → leftOf k a k ≡ a
-  left-by-width a h = rw (mod-self k) (ap (λ (n : ℕ). n % 2 ^ k) (one a) ∙ mod-eq-of-lt h)
-    where
-      one : (n : ℕ) → n * 1 ≡ n
-      one n = omega arith

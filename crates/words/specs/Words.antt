@@ -1,7 +1,9 @@
--- Words of k bits, as numbers below 2 ^ k, and what the operators do to them (document 01, "Operators"). Assumes nothing.
+-- Words of k bits, as numbers below 2 ^ k, and what the operators do to them (document 01, "Operators"; the shifts as document 02, Five, has
+-- them). Assumes nothing.
 use Prim.Native.Nat.{ℕ, _+_, _-_, _*_, _/_, _%_, _^_}
 use lib.Bits.{bitAnd, bitOr, bitXor}
 use lib.Count.{ones, leadingZeros}
+use Rattle.notation.specs.Notation.{if_below_then_else_}
 
 -- "Words are 16 bits": the width stands here alone
 abbrev pub width : ℕ
@@ -59,13 +61,13 @@ orOf a b = bitOr a b
 abbrev pub xorOf : ℕ → ℕ → ℕ
 xorOf a b = bitXor a b
 
--- 7 shift left; "the amount is taken modulo 16"
+-- 7 shift left; "give zero once the amount reaches the width"
 abbrev pub leftOf : ℕ → ℕ → ℕ → ℕ
-leftOf k a b = (a * 2 ^ (b % k)) % 2 ^ k
+leftOf k a b = if b below k then (a * 2 ^ b) % 2 ^ k else 0
 
--- 8 logical shift right
+-- 8 logical shift right, likewise
 abbrev pub rightOf : ℕ → ℕ → ℕ → ℕ
-rightOf k a b = a / 2 ^ (b % k)
+rightOf k a b = if b below k then a / 2 ^ b else 0
 
 -- 9 count of ones
 abbrev pub onesOf : ℕ → ℕ

@@ -95,18 +95,18 @@ pub fn xor(a: Word, b: Word) -> Word
     a ^ b
 }
 
-// The amount is taken modulo the width.
+// Zero once the amount reaches the width.
 pub fn shift_left(a: Word, b: Word) -> Word
     ensures { λ r. ⌜ r ≡ leftOf width a b ⌝ }
 {
-    a << (b % WIDTH)
+    if b < WIDTH { a << b } else { 0 }
 }
 
-// The amount is taken modulo the width.
+// Zero once the amount reaches the width.
 pub fn shift_right(a: Word, b: Word) -> Word
     ensures { λ r. ⌜ r ≡ rightOf width a b ⌝ }
 {
-    a >> (b % WIDTH)
+    if b < WIDTH { a >> b } else { 0 }
 }
 
 pub fn count_ones(a: Word) -> Word

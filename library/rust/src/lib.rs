@@ -1,6 +1,7 @@
 //! The desk for Rust: a session over a table, the rules that are evaluated in it, the readings of their results under
-//! sixteen numbers and under those of many bales at a stroke, what they can be within spans, and plain runs. Byte forms
-//! stay inside; `exports` has the functions over them.
+//! sixteen numbers and under those of many bales at a stroke, what they can be within spans, and plain runs. A shift by the
+//! width of a word or more gives 0 wherever it is worked out, read or run. Byte forms stay inside; `exports` has the
+//! functions over them.
 
 pub mod exports;
 pub mod forms;

@@ -80,7 +80,8 @@ pub fn shape(op: u8) -> Shape {
     SHAPES.get(usize::from(op)).copied().unwrap_or(NONE)
 }
 
-/// An operator 1 to 12 on its operands, or nothing if one of them is no word.
+/// An operator 1 to 12 on its operands, or nothing if one of them is no word. A shift gives zero once the amount reaches the
+/// width.
 pub fn on_words<P>(op: u8, x: Option<Word>, y: Option<Word>) -> Option<Value<P>> {
     let x = x?;
     let y = if shape(op).operands == 2 { y? } else { 0 };
@@ -91,8 +92,8 @@ pub fn on_words<P>(op: u8, x: Option<Word>, y: Option<Word>) -> Option<Value<P>>
         4 => Value::Word(x & y),
         5 => Value::Word(x | y),
         6 => Value::Word(x ^ y),
-        7 => Value::Word(x << (y % WIDTH)),
-        8 => Value::Word(x >> (y % WIDTH)),
+        7 => Value::Word(x.checked_shl(u32::from(y)).unwrap_or(0)),
+        8 => Value::Word(x.checked_shr(u32::from(y)).unwrap_or(0)),
         9 => Value::Word(x.count_ones() as Word),
         10 => Value::Word(x.leading_zeros() as Word),
         11 => Value::Truth(x < y),

@@ -1,9 +1,9 @@
 //! What document 02's request One folds: a product and a bitwise and with 0, a choice with equal sides, a not of a not;
 //! and what stands close to these and is not folded.
 
-use super::evaluate;
 use super::every_kind::{every_kind, LAST, LESS, NINE, NOT, SUM};
 use super::fitting::expect;
+use super::{damaged_at_times, evaluate};
 use crate::compare::{compare_fits, result_of};
 use crate::evaluations::Pair;
 use crate::made::{free_inputs, word_input, Made, FREE_TRUTH, FREE_WORD};
@@ -209,11 +209,8 @@ fn random_rules(tally: &mut Tally) {
         let room = dice.pick(&[34, 40, 48, 64, 128, 512]);
         let mut pair = Pair::open(&inputs, 8 * room).expect("a good opening");
         for _ in 0..3 {
-            let mut bytes = folding(&mut dice, 0, 12).rule();
-            if dice.below(10) == 0 {
-                let at = dice.below(bytes.len() as u64) as usize;
-                bytes[at] = dice.below(20) as u8;
-            }
+            let tree = folding(&mut dice, 0, 12);
+            let bytes = damaged_at_times(&mut dice, &tree);
             let answer = pair.evaluate(tally, &bytes, 24);
             compare_fits(tally, &pair.session, &pair.theirs);
             let made: Vec<Record> = records(&pair.theirs).collect();

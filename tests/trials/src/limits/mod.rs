@@ -15,6 +15,7 @@ mod prints;
 mod readings;
 mod rule_records;
 mod samples;
+mod shifts;
 mod spans;
 mod stores;
 mod terms;
@@ -23,10 +24,12 @@ use crate::compare::compare_fits;
 use crate::evaluations::Pair;
 use crate::made::Made;
 use crate::tally::Tally;
+use crate::tree::Tree;
+use second::dice::Dice;
 
 type Group = (&'static str, fn(&mut Tally));
 
-const GROUPS: [Group; 16] = [
+const GROUPS: [Group; 17] = [
     ("openings", openings::all),
     ("rule_records", rule_records::all),
     ("fitting", fitting::all),
@@ -37,6 +40,7 @@ const GROUPS: [Group; 16] = [
     ("making", making::all),
     ("folds", folds::all),
     ("operators", operators::all),
+    ("shifts", shifts::all),
     ("readings", readings::all),
     ("samples", samples::all),
     ("spans", spans::all),
@@ -69,6 +73,16 @@ fn fits(tally: &mut Tally, made: &Made) -> u8 {
 
 fn evaluate(tally: &mut Tally, made: &Made, rule: &[u8], allowance: u16) -> u8 {
     Pair::of(made.session, made.table.clone()).refusal(tally, rule, allowance)
+}
+
+/// A tree's rule; about one in ten has a byte changed.
+fn damaged_at_times(dice: &mut Dice, tree: &Tree) -> Vec<u8> {
+    let mut bytes = tree.rule();
+    if dice.below(10) == 0 {
+        let at = dice.below(bytes.len() as u64) as usize;
+        bytes[at] = dice.below(20) as u8;
+    }
+    bytes
 }
 
 /// The first of the refusals that are there, or 0.

@@ -13,8 +13,8 @@ pub fn all(tally: &mut Tally) {
     on_others(tally);
 }
 
-/// About the ends of the words and of the shifts.
-const WORDS: [Word; 12] = [
+/// About the ends of the words and of the width.
+pub const WORDS: [Word; 12] = [
     0,
     1,
     2,
@@ -29,7 +29,7 @@ const WORDS: [Word; 12] = [
     Word::MAX,
 ];
 
-/// "Words are 16 bits and sums wrap. [..] (low 16 bits) [..] (the amount is taken modulo 16), [..] (16 for 0)"
+/// "Words are 16 bits and sums wrap. [..] (low 16 bits) [..] (16 for 0)"; shifts have trials of their own
 fn on_words(tally: &mut Tally) {
     for op in 1..=15 {
         let one = matches!(op, 9 | 10 | 13 | 14 | 15);
