@@ -1,8 +1,8 @@
 /* The desk's library, target/staticlib/libdesk.a, which `rt staticlib desk` proves and writes (x86-64 Linux).
  *
  * A slice is lent as an address and a length: of bytes, but for lists of numbers, whose lengths count numbers and not bytes:
- * a work list and the answers for bales hold desk_place, the numbers of bales desk_word and a list of reports uint32_t. The
- * caller owes that the address is not null and holds so many, that a list is aligned for the numbers that it holds, and that
+ * a work list and the answers for bales hold desk_place, the numbers of bales desk_word, a list of reports uint32_t and the
+ * place of a text's length uint64_t. The caller owes that the address is not null and holds so many, that a list is aligned for the numbers that it holds, and that
  * nothing written (not const) overlaps another slice of the same call. Nothing else is asked of a caller: every length and
  * every byte is taken or refused. A call keeps no address and uses no memory but what is lent and the stack; an evaluation at
  * the largest depth takes up to 0.7 MiB of it.
@@ -29,11 +29,12 @@
  *      bales of sixteen, or an answers list whose length is not the count of bales
  *   16 the store is full
  *   17 a free word's low is above its high
+ *   18 the text is longer than the lent buffer; the text's length is written
  *
  * and one more is the library's own, which comes before all of them:
  *
- *  255 a session, numbers (but those of bales), lows, highs, a result, or the place of an answer or a reading, of another
- *      length than its form has
+ *  255 a session, numbers (but those of bales), lows, highs, a result, a goal, or the place of an answer, a reading or a
+ *      text's length, of another length than its form has; a goal that is not of its form
  *
  * The operators of a rule are those of document 01 with the shifts of document 02: a shift by 16 or more gives 0, to the
  * left and to the right, where its term is made, where it is read and in a plain run. A session that a library without
@@ -96,6 +97,13 @@ typedef uint32_t desk_place;
  *   1  zero
  *   2  its number, a word: 0 or 1 of a truth, the word, a procedure's record; 0 of an abort and of an error
  *
+ * goal, 4 bytes: what desk_clauses asks of a reading, in the form of the reading
+ *   0  DESK_WORD, DESK_ABORT or DESK_ERROR
+ *   1  zero
+ *   2  the word; 0 of an abort and of an error
+ *
+ * a text's length, one number of type uint64_t: written by desk_clauses
+ *
  * a sample's answer, one number of type desk_place: written by desk_read_all for each sample, that of sample n as number n. It
  * is a kind times 65,536, which is two to the power of a word's bits, plus a number: DESK_SAMPLE_KIND and DESK_SAMPLE_NUMBER
  * take it apart. Kind and number are those of the reading that desk_read would write; where it would refuse the sample by 13,
@@ -116,6 +124,8 @@ enum {
     DESK_RESULT = 8,
     DESK_ANSWER = 10,
     DESK_READING = 2 * DESK_WORD_BYTES,
+    DESK_GOAL = DESK_READING,
+    DESK_LENGTH = 1,
     DESK_REPORT = 3,
     DESK_LEAST_TABLE = 272,
     DESK_MOST_TABLE = 65536,
@@ -123,7 +133,7 @@ enum {
     DESK_MOST_ALLOWANCE = 256
 };
 
-/* The answer to a form of another length: no number of document 01. */
+/* The answer to a form of another length, and to a goal that is not of its form: no number of document 01 or 02. */
 enum {
     DESK_WRONG_LENGTH = 255
 };
@@ -238,6 +248,24 @@ uint8_t desk_spans(const uint8_t *session, size_t session_len,
                    const uint8_t *lows, size_t lows_len,
                    const uint8_t *highs, size_t highs_len,
                    uint32_t *reports, size_t reports_len);
+
+/* Writes clauses for a solver: DIMACS CNF text, as docs/CLAUSES.md has it, of a session's table, a result and a goal. They can
+ * be satisfied exactly where some sixteen numbers, none of which 13 refuses, make reading the result give the goal, and the
+ * input variables of whatever satisfies them are such numbers: the number for a free input is the word of bits 18n + 3 to
+ * 18n + 18, lowest first, where term n is that input's (theorems clauses-exact and model-is-reading). What the grammar of
+ * DIMACS reads from the text is these clauses (text-is-clauses). The bytes past the text are left as they were. The length is
+ * written where the answer is 0 or 18, so that a call with an empty buffer tells how much to lend. Answers 255, 3, 14 or 18, or
+ * 0.
+ *
+ * What a gin may be told: take a session that was opened by desk_open and changed only by desk_evaluate, with the table that
+ * these left, and the result of its last accepted rule. If the clauses for DESK_ERROR can't be satisfied, no reading of that
+ * result errs, and no run of the accepted rules does (theorem unsatisfied-never-errs). */
+uint8_t desk_clauses(const uint8_t *session, size_t session_len,
+                     const uint8_t *table, size_t table_len,
+                     const uint8_t *result, size_t result_len,
+                     const uint8_t *goal, size_t goal_len,
+                     uint8_t *text, size_t text_len,
+                     uint64_t *length, size_t length_len);
 
 #ifdef __cplusplus
 }

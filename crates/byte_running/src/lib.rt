@@ -33,7 +33,7 @@ pub fn run(
 {
     let unformed = run_unformed(inputs, numbers, reading.len());
     if unformed != 0 {
-        records::wipe(store, 0);
+        slices::wipe(store, 0);
         return unformed;
     }
     let outcome = operations::run_plainly(

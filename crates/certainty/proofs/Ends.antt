@@ -19,7 +19,7 @@ use Rattle.certainty.specs.Certain.{Words, noInput, Within}
 use Rattle.certainty.proofs.Reports.{Between}
 
 -- a free truth's number is 0 or 1, where 13 does not refuse it
-number-taken : (xs : List Input) (ns : List ℕ) → numbersTaken xs ns ≡ true → (i : ℕ) → i < length xs → i < length ns → getD xs i noInput .kind ≡ freeTruth → getD ns i 0 < 2
+pub number-taken : (xs : List Input) (ns : List ℕ) → numbersTaken xs ns ≡ true → (i : ℕ) → i < length xs → i < length ns → getD xs i noInput .kind ≡ freeTruth → getD ns i 0 < 2
 unfolding numbersTaken if_equals_then_else_
 number-taken [] ns h i l m k = absurd (omega arith)
 number-taken (x ∷ xs) [] h i l m k = absurd (omega arith)

@@ -1,4 +1,4 @@
--- In a table that 3 takes, a free term names a free input of its kind. Assumes nothing.
+-- A table that 3 takes begins with false and true, and a free term in it names a free input of its kind. Assumes nothing.
 use mathlib.Core.Path.{_≡_, refl, sym, ap, subst, _∙_}
 use mathlib.Core.Bool.{Bool, true, false, not}
 use mathlib.Core.List.{List, [], _∷_}
@@ -17,9 +17,11 @@ use Rattle.semantics.specs.Terms.{term, wordTermOf, truthNumber, termAt, termsI
 use Rattle.semantics.specs.Steps.{settingOf}
 use Rattle.semantics.specs.Opening.{badTableSize, inputTaken, inputTerm, opening}
 use Rattle.semantics.specs.Fits.{sameTerms, noFree, fitsOf}
+use Rattle.typing.proofs.Grown.{Grown, still, more, grown-on}
 use Rattle.typing.proofs.Formed.{never, both, by-test}
 use Rattle.soundness.proofs.Inputs.{All, EachIn, opening-all}
-use Rattle.fitting.proofs.Begun.{same-terms}
+use Rattle.opening.proofs.Begins.{constants}
+use Rattle.fitting.proofs.Begun.{same-terms, begins-all}
 use Rattle.demands.proofs.Holds.{begun}
 use Rattle.certainty.specs.Certain.{noInput}
 
@@ -95,8 +97,16 @@ past-free xs s k zero (suc m) e h a = absurd (omega arith)
 past-free xs s k (suc c) (suc m) e h a =
     by-test (noFree (termAt s c)) (every noFree (take m (termsIn s c))) false h (λ p q. (none-free xs (termAt s c) p, past-free xs s k c m (omega arith) q a)) (λ p q. never q)
 
+-- the first k terms, and those up to c
+terms-grown : (s : List ℕ) (k c m : ℕ) → k + m ≡ c → Grown (termsIn s k) (termsIn s c)
+unfolding termsIn
+terms-grown s k c zero e = let i : k ≡ c = omega arith in subst (λ n. Grown (termsIn s k) (termsIn s n)) i still
+terms-grown s k zero (suc m) e = absurd (omega arith)
+terms-grown s k (suc c) (suc m) e = more (terms-grown s k c m (omega arith))
+
 -- ---- a session and a table that fit
 pub record Fitting (x : Session) (s : List ℕ) : Type 0 where
+  pub base : Grown constants (termsIn s (x .count))
   pub free : All (Free (x .inputs)) (termsIn s (x .count))
   pub formed : wellFormed (x .accepted) (termsIn s (x .count)) ≡ true
 
@@ -111,8 +121,11 @@ fitting x s n h =
     both (every noFree (take (x .count - length (opening (x .inputs) .terms)) (termsIn s (x .count)))) _ h λ past h.
     both (wellFormed (x .accepted) (termsIn s (x .count))) _ h λ formed h.
     let l : length (opening (x .inputs) .terms) ≤ x .count = leb-true _ _ enough in
+    let opened : termsIn s (length (opening (x .inputs) .terms)) ≡ opening (x .inputs) .terms = same-terms _ _ same in
     record {
+      base = grown-on (begins-all (x .inputs) n .base)
+          (subst (λ us. Grown us (termsIn s (x .count))) opened (terms-grown s (length (opening (x .inputs) .terms)) (x .count) (x .count - length (opening (x .inputs) .terms)) (omega arith)));
       free = past-free (x .inputs) s (length (opening (x .inputs) .terms)) (x .count) (x .count - length (opening (x .inputs) .terms)) (omega arith) past
-          (subst (All (Free (x .inputs))) (sym (same-terms _ _ same)) (opening-free (x .inputs) n taken));
+          (subst (All (Free (x .inputs))) (sym opened) (opening-free (x .inputs) n taken));
       formed = formed;
     }

@@ -10,7 +10,9 @@
 //   reports   a list of numbers of four bytes: of each term its sort (0 open, 1 a truth, 2 a word), its low and its high
 //   samples   a list of words, 16 for a sample; the answers are a list of places, of each sample a reading as one number: what
 //             it is, times 65,536, and its number; of a sample that 13 refuses 13 alone
-// A form of another length than its own is refused by 255 before anything else; inputs of another length, and what stands
+//   goal       4 bytes: as a reading, 2 a word and the word, 8 an abort and 0, 9 an error and 0
+//   length    a list of one number of eight bytes: that of the text's bytes
+// A form of another length than its own is refused by 255 before anything else, and so is a goal that is not of its form; inputs of another length, and what stands
 // in a form (a pad byte that is not zero, a mark over 1), by the operation's own number in its order of tests: inputs by
 // 2, a session by 3, a result by 14. A refusal leaves what is lent as it was, but for the work list and the store, which
 // are zero on every return. No public function has a `requires`.
@@ -28,6 +30,7 @@ ghost use Rattle.byte_reading.specs.Read.{deskRead};
 ghost use Rattle.byte_running.specs.Run.{deskRun};
 ghost use Rattle.byte_spans.specs.Spans.{deskSpans};
 ghost use Rattle.byte_samples.specs.Samples.{deskReadAll};
+ghost use Rattle.byte_clauses.specs.Clauses.{deskClauses};
 
 // Opens a session over a table and writes it.
 #[no_mangle]
@@ -134,4 +137,22 @@ pub extern "C" fn desk_read_all(
     ensures { λ r. ⌜ (r, now (work .exit), now (answers .exit)) ≡ deskReadAll (now (session .entry)) (now (table .entry)) (now (result .entry)) (now (numbers .entry)) (now (work .entry)) (now (answers .entry)) ⌝ }
 {
     byte_samples::read_all(session, table, result, numbers, work, answers)
+}
+
+// Writes the clauses of a table and a goal as DIMACS CNF text. They can be satisfied exactly where some sixteen numbers make
+// reading the result reach the goal, and the input variables of what satisfies them are such numbers (theorems clauses-exact,
+// model-is-reading). Where the session was kept from its opening and the clauses for an error of its last accepted result can't
+// be satisfied, no run of the accepted rules errs (theorem unsatisfied-never-errs).
+#[no_mangle]
+pub extern "C" fn desk_clauses(
+    session: &[u8],
+    table: &[u8],
+    result: &[u8],
+    goal: &[u8],
+    text: &mut [u8],
+    length: &mut [u64],
+) -> u8
+    ensures { λ r. ⌜ (r, now (text .exit), now (length .exit)) ≡ deskClauses (now (session .entry)) (now (table .entry)) (now (result .entry)) (now (goal .entry)) (now (text .entry)) (now (length .entry)) ⌝ }
+{
+    byte_clauses::clauses(session, table, result, goal, text, length)
 }

@@ -14,7 +14,7 @@ use Rattle.semantics.specs.Evaluation.{Evaluator, applyOf, targetOf, liveOf, ev
 use Rattle.terms.specs.Gives.{Gives, from}
 use Rattle.terms.proofs.Gives.{steps, if-eq, if-ne, gives-value, gives-none, then-map}
 use Rattle.walk.proofs.Arrays.{from-push}
-use Rattle.merge.specs.Branches.{noBranch}
+use Rattle.branches.specs.Branches.{noBranch}
 
 module _ (rule : List ℕ) (before d i env : ℕ) (x : State) {s : List ℕ} {n : ℕ} where
   pub eval-spent : d ≡ 0 → {u : ℕ} {a : Result} → Gives (evalOf rule before d i env x) s n 12 n u a s

@@ -179,7 +179,7 @@ fn under(
 ) -> Out
     ensures { λ r. ⌜ Evaluates depth (underOf (evalOf (now (rule .entry)) before depth) q value env state) (now (table .entry)) count r (now (table .exit)) ⌝ }
 {
-    let bound = factory::make_binding(table, count, value, env);
+    let bound = makers::make_binding(table, count, value, env);
     if bound.refusal != 0 {
         return expressions::stop(bound.refusal, bound.count, state);
     }
@@ -327,7 +327,7 @@ fn targets(
     requires { ⌜ n ≤ leafLimit ⌝ }
     ensures { λ r. ⌜ Evaluates depth (targetsOf (evalOf (now (rule .entry)) before depth) (now (rule .entry)) arg state (from noLeaf leaves 0 n)) (now (table .entry)) count r (now (table .exit)) ⌝ }
 {
-    let mut list = [merge::NO_BRANCH; numbers::LEAF_LIMIT];
+    let mut list = [branches::NO_BRANCH; numbers::LEAF_LIMIT];
     let mut have: usize = 0;
     let mut used: u16 = 0;
     let mut made = count;
@@ -344,7 +344,7 @@ fn targets(
             return out;
         }
         let result = out.result;
-        list[have] = merge::branch(leaf.guard, result);
+        list[have] = branches::branch(leaf.guard, result);
         have += 1;
         used = expressions::deeper(used, out.used);
         made = out.count;

@@ -111,7 +111,7 @@ pub fn datum(table: &mut [u8], count: u16, x: Record, y: State) -> Out
     ensures { λ r. ⌜ Evaluates 0 (datumOf (x .op) (datumWord x) y) (now (table .entry)) count r (now (table .exit)) ⌝ }
 {
     if x.op == numbers::WORD_DATUM {
-        return given(factory::make_word(table, count, records::datum_word(x)), y);
+        return given(makers::make_word(table, count, fields::datum_word(x)), y);
     }
     Out {
         refusal: 0,
@@ -129,7 +129,7 @@ pub fn datum(table: &mut [u8], count: u16, x: Record, y: State) -> Out
 pub fn procedure(table: &mut [u8], count: u16, i: u16, env: u16, before: u16, x: State) -> Out
     ensures { λ r. ⌜ Evaluates 0 (procedureOf i env before x) (now (table .entry)) count r (now (table .exit)) ⌝ }
 {
-    given(factory::make_procedure(table, count, i, env, before), x)
+    given(makers::make_procedure(table, count, i, env, before), x)
 }
 
 // Abort assumes false and halts.
@@ -179,7 +179,7 @@ fn test(table: &mut [u8], count: u16, op: u8, a: u16) -> Made
         if truth.refusal != 0 {
             return truth;
         }
-        return factory::not_of(table, truth.count, truth.number);
+        return formulas::not_of(table, truth.count, truth.number);
     }
     if op == numbers::IS_WORD_CODE {
         return factory::is_word(table, count, a);
@@ -202,7 +202,7 @@ fn words(table: &mut [u8], count: u16, op: u8, a: u16, b: u16) -> Made
     if second.refusal != 0 {
         return second;
     }
-    factory::and_of(table, second.count, first.number, second.number)
+    formulas::and_of(table, second.count, first.number, second.number)
 }
 
 // Codes 1 to 12: assert that the operands are words, halt if S or T is then false, and only then make the term.

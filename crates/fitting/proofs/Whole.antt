@@ -11,7 +11,7 @@ use Rattle.semantics.specs.Numbers.{leastTable}
 use Rattle.semantics.specs.Terms.{termsIn}
 use Rattle.semantics.specs.Opening.{badTableSize, inputTaken}
 use Rattle.semantics.specs.Fits.{fitsOf}
-use Rattle.records.specs.Wiped.{wiped}
+use Rattle.slices.specs.Wiped.{wiped}
 use Rattle.terms.specs.Gives.{Gives}
 use Rattle.opening.specs.Openings.{openAll}
 use Rattle.opening.proofs.Opened.{terms, environment}

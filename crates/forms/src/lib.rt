@@ -61,11 +61,11 @@ fn two(s: &[u8], at: u32) -> u16
     ensures { λ r. ⌜ r ≡ pairAt (now (s .entry)) at ⌝ }
 {
     let i = at as usize;
-    records::pair(records::byte(s, i), records::byte(s, i + 1))
+    slices::pair(slices::byte(s, i), slices::byte(s, i + 1))
 }
 
 // The word of the bytes at a position.
-fn word_at(s: &[u8], at: u16) -> Word
+pub fn word_at(s: &[u8], at: u16) -> Word
     ensures { λ r. ⌜ r ≡ wordAt (now (s .entry)) at ⌝ }
 {
     let i = at as u32;
@@ -77,7 +77,7 @@ fn input_in(s: &[u8], i: u8) -> Input
 {
     let at = INPUT * (i as u16);
     Input {
-        kind: records::byte(s, at as usize),
+        kind: slices::byte(s, at as usize),
         value: word_at(s, at + WORD),
     }
 }
@@ -111,7 +111,7 @@ fn input_zeroed(s: &[u8], i: u8) -> bool
     ensures { λ r. ⌜ r ≡ inputZeroed (now (s .entry)) i ⌝ }
 {
     let at = (INPUT * (i as u16)) as usize;
-    records::byte(s, at + 1) == 0
+    slices::byte(s, at + 1) == 0
 }
 
 // Whether what stands between kind and value is zero in each of the 16 inputs.
@@ -143,8 +143,8 @@ fn mark_formed(s: &[u8], at: u32) -> bool
     ensures { λ r. ⌜ r ≡ markFormed (now (s .entry)) at ⌝ }
 {
     let i = at as usize;
-    if records::byte(s, i) < 2 {
-        records::byte(s, i + 1) == 0
+    if slices::byte(s, i) < 2 {
+        slices::byte(s, i + 1) == 0
     } else {
         false
     }
@@ -170,7 +170,7 @@ pub fn session_in(s: &[u8]) -> Session
             assumed: two(s, ASSUMED),
             asserted: two(s, ASSERTED),
         },
-        halted: records::byte(s, HALTED) == 1,
+        halted: slices::byte(s, HALTED) == 1,
         accepted: two(s, ACCEPTED),
     }
 }
@@ -195,7 +195,7 @@ pub fn result_in(s: &[u8]) -> Result
             asserted: two(s, 2),
         },
         value: two(s, 4),
-        halted: records::byte(s, 6) == 1,
+        halted: slices::byte(s, 6) == 1,
     }
 }
 

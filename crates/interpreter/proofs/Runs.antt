@@ -16,8 +16,8 @@ use Rattle.semantics.specs.Numbers.{datumRecord, variableRecord, procedureRecor
 use Rattle.semantics.specs.Records.{recordAt, datumWord}
 use Rattle.semantics.specs.Run.{Value, procedure, binding, none, gives, aborts, errs, spends, placed, isFalse, isAWord, isAProcedure, wordIn, wordsRun, operatorRun, datumValue}
 use Rattle.semantics.specs.PlainRun.{Stored, ended, full, Storing, onward, taking, callStored, expressionStored, storedOf, startedOf, valueGiven, endedOutcome, storedOutcome, placesIn}
-use Rattle.records.specs.Wiped.{wiped}
-use Rattle.records.proofs.Wiped.{wiped-all}
+use Rattle.slices.specs.Wiped.{wiped}
+use Rattle.slices.proofs.Wiped.{wiped-all}
 use Rattle.interpreter.specs.declared.Held.{Held}
 use Rattle.interpreter.specs.declared.Ran.{Ran}
 use Rattle.interpreter.specs.Store.{valueOf, chainIn, linkOf, valueIn, shown, nothing, storedBy, valueEnd, abortEnd, errorEnd, spentEnd, fullEnd}

@@ -78,7 +78,7 @@ pub fn run_in_store(
 {
     let o = start(store, rule, inputs, numbers, allowance);
     let r = outcome(o);
-    records::wipe(store, 0);
+    slices::wipe(store, 0);
     r
 }
 
@@ -247,7 +247,7 @@ fn datum(x: Record) -> Held
     ensures { λ r. ⌜ (shown r ≡ datumValue (x .op) (datumWord x)) × (linkOf r ≡ 0) ⌝ }
 {
     if x.op == WORD_DATUM {
-        return word_value(records::datum_word(x));
+        return word_value(fields::datum_word(x));
     }
     truth(x.op == TRUE_DATUM)
 }
@@ -429,7 +429,7 @@ fn put_binding(store: &mut [u8], n: u16, v: Held, next: u16)
     ensures { λ _. ⌜ now (store .exit) ≡ put (now (store .entry)) n (bound v next) ⌝ }
 {
     let at = 8 * (n as usize);
-    records::write(&mut store[at..], v.sort, 0, v.first, v.second, next);
+    fields::write(&mut store[at..], v.sort, 0, v.first, v.second, next);
 }
 
 // How many places a store of so many bytes has.

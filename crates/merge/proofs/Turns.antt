@@ -11,12 +11,12 @@ use denote.Laws.{Is}
 use denote.Struct.Laws as LL
 use Rattle.semantics.specs.declared.Branch.{Branch}
 use Rattle.semantics.specs.Steps.{Make, each}
-use Rattle.merge.specs.declared.Carried.{Carried}
-use Rattle.merge.specs.Branches.{noBranch}
-use Rattle.merge.specs.Passes.{Carry, passStep, met, placeOf, passOf, Carries}
-use Rattle.merge.proofs.Carried as K
-use Rattle.merge.proofs.Carried.Laws as K′
-use Rattle.merge.proofs.Onward.{no-turn, one-turn}
+use Rattle.branches.specs.declared.Carried.{Carried}
+use Rattle.branches.specs.Branches.{noBranch}
+use Rattle.branches.specs.Passes.{Carry, passStep, met, placeOf, passOf, Carries}
+use Rattle.branches.proofs.Carried as K
+use Rattle.branches.proofs.Carried.Laws as K′
+use Rattle.branches.proofs.Onward.{no-turn, one-turn}
 use Rattle.merge.proofs.Passes.{met-length, met-at}
 
 -- the machine value of what is carried

@@ -17,8 +17,8 @@ use Rattle.semantics.specs.Terms.{termsIn, imageOf}
 use Rattle.semantics.specs.Steps.{Got, gave, refused, settingOf}
 use Rattle.semantics.specs.Opening.{badTableSize, inputTaken, opening, openingFrom, sessionOf, openOf}
 use Rattle.terms.specs.Search.{codeSetting}
-use Rattle.records.specs.Wiped.{wiped}
-use Rattle.records.proofs.Wiped.{wiped-all}
+use Rattle.slices.specs.Wiped.{wiped}
+use Rattle.slices.proofs.Wiped.{wiped-all}
 use Rattle.terms.specs.Gives.{shown, Gives}
 use Rattle.terms.proofs.Tables.{terms-length}
 use Rattle.opening.specs.Openings.{openAll}

@@ -74,10 +74,10 @@ fn make_input(table: &mut [u8], count: u16, i: u16, x: Input) -> Made
 {
     let kind = x.kind;
     match kind {
-        numbers::CONSTANT_TRUTH => factory::make_truth(table, count, terms::truth_number(x.value)),
-        numbers::CONSTANT_WORD => factory::make_word(table, count, x.value),
-        numbers::FREE_TRUTH => factory::make_free(table, count, numbers::FREE_TRUTH_TERM, i),
-        _ => factory::make_free(table, count, numbers::FREE_WORD_TERM, i),
+        numbers::CONSTANT_TRUTH => makers::make_truth(table, count, terms::truth_number(x.value)),
+        numbers::CONSTANT_WORD => makers::make_word(table, count, x.value),
+        numbers::FREE_TRUTH => makers::make_free(table, count, numbers::FREE_TRUTH_TERM, i),
+        _ => makers::make_free(table, count, numbers::FREE_WORD_TERM, i),
     }
 }
 
@@ -97,18 +97,18 @@ fn open_from(table: &mut [u8], count: u16, inputs: [Input; 16], i: u16) -> Made
     if later.refusal != 0 {
         return later;
     }
-    factory::make_binding(table, later.count, value.number, later.number)
+    makers::make_binding(table, later.count, value.number, later.number)
 }
 
 // All terms of an opening, on a table with none yet.
 pub fn open_all(table: &mut [u8], inputs: [Input; 16]) -> Made
     ensures { λ r. ⌜ Makes (openAll inputs) (now (table .entry)) 0 r (now (table .exit)) ⌝ }
 {
-    let no = factory::make_truth(table, 0, 0);
+    let no = makers::make_truth(table, 0, 0);
     if no.refusal != 0 {
         return no;
     }
-    let yes = factory::make_truth(table, no.count, 1);
+    let yes = makers::make_truth(table, no.count, 1);
     if yes.refusal != 0 {
         return yes;
     }
@@ -147,7 +147,7 @@ pub fn open(inputs: [Input; 16], table: &mut [u8]) -> Opened
             session: session(inputs, 0),
         };
     }
-    records::wipe(table, 0);
+    slices::wipe(table, 0);
     let opened = open_all(table, inputs);
     Opened {
         refusal: 0,

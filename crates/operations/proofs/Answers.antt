@@ -21,8 +21,8 @@ use Rattle.semantics.specs.Reading.{numbersTaken, resultTaken, readOutcome, rea
 use Rattle.semantics.specs.Run.{inputsBound}
 use Rattle.semantics.specs.PlainRun.{storedOutcome, startedOf, placesIn, runOutcome, runPlainlyOf}
 use Rattle.samples.specs.Marked.{outcomeIn}
-use Rattle.records.specs.Wiped.{wiped}
-use Rattle.records.proofs.Wiped.{wiped-all}
+use Rattle.slices.specs.Wiped.{wiped}
+use Rattle.slices.proofs.Wiped.{wiped-all}
 
 -- a slice that is wiped from its first place on
 pub all-wiped : (s : List ℕ) {y : List ℕ} → y ≡ wiped s 0 → y ≡ replicate (length s) 0

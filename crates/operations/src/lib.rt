@@ -35,10 +35,10 @@ pub fn read(
         return unread(numbers::MISFIT, work);
     }
     let inputs = session.inputs;
-    if reader::numbers_taken(inputs, numbers) {} else {
+    if reading_tests::numbers_taken(inputs, numbers) {} else {
         return unread(numbers::BAD_NUMBER, work);
     }
-    if reader::result_taken(table, session.count, result) {} else {
+    if reading_tests::result_taken(table, session.count, result) {} else {
         return unread(numbers::BAD_RESULT, work);
     }
     samples::read_result(table, session.count, numbers, result, work)
@@ -48,7 +48,7 @@ pub fn read(
 fn unrun(refusal: u8, store: &mut [u8]) -> Outcome
     ensures { λ r. ⌜ r ≡ Refused refusal ⌝ ∗ ⌜ now (store .exit) ≡ replicate (length (now (store .entry))) 0 ⌝ }
 {
-    records::wipe(store, 0);
+    slices::wipe(store, 0);
     Outcome::Refused(refusal)
 }
 
@@ -65,14 +65,14 @@ pub fn run_plainly(
     if opening::inputs_taken(inputs) {} else {
         return unrun(numbers::BAD_INPUT, store);
     }
-    if reader::numbers_taken(inputs, numbers) {} else {
+    if reading_tests::numbers_taken(inputs, numbers) {} else {
         return unrun(numbers::BAD_NUMBER, store);
     }
     let k = rules::refusal(rule);
     if 0 < k {
         return unrun(k, store);
     }
-    if rules::bad_depth(allowance) {
+    if record_tests::bad_depth(allowance) {
         return unrun(numbers::BAD_ALLOWANCE, store);
     }
     interpreter::run_in_store(inputs, numbers, rule, allowance, store)

@@ -90,7 +90,7 @@ pub fn test(table: &mut [u8], count: u16, p: u16, q: u16, r: u16, env: u16) -> T
 pub fn fork(table: &mut [u8], count: u16, g: u16, state: State) -> Forked
     ensures { λ r. ⌜ Gives (forkOf g state) (now (table .entry)) count (r .refusal) (r .count) 0 (record { guard = r .guard; yes = r .yes; no = r .no }) (now (table .exit)) ⌝ }
 {
-    let not = factory::not_of(table, count, g);
+    let not = formulas::not_of(table, count, g);
     if not.refusal != 0 {
         return unforked(not.refusal, not.count, state);
     }
@@ -139,9 +139,9 @@ pub fn join(table: &mut [u8], state: State, g: u16, h: u16, first: Out, second: 
 {
     let a = first.result;
     let b = second.result;
-    let yes = merge::branch(g, a);
-    let no = merge::branch(h, b);
-    let merged = merge::merge_two(table, second.count, state, yes, no);
+    let yes = branches::branch(g, a);
+    let no = branches::branch(h, b);
+    let merged = branches::merge_two(table, second.count, state, yes, no);
     let result = merged.result;
     Out {
         refusal: merged.refusal,
@@ -180,7 +180,7 @@ pub fn enter(
     }
     let target = leaf.term;
     let procedure = records::record_at(rule, target.a);
-    let bound = factory::make_binding(table, assumed.count, arg, target.b);
+    let bound = makers::make_binding(table, assumed.count, arg, target.b);
     Entered {
         refusal: bound.refusal,
         count: bound.count,

@@ -1,4 +1,2 @@
-pub mod Formulas
-pub mod Taken
 pub mod Held
 pub mod Work

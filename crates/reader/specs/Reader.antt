@@ -1,21 +1,12 @@
 -- What the reader promises. A place of a work list holds the reading of a term as a number. Assumes nothing.
-use mathlib.Core.Bool.{Bool, true}
 use mathlib.Core.List.{List}
 use Prim.Native.Nat.{ℕ, _/_, _%_}
-use lib.Dec.{ltb}
 use lib.ListN.{getD}
 use Rattle.words.specs.Words.{wordLimit}
-use Rattle.notation.specs.Notation.{if_equals_then_else_}
-use Rattle.semantics.specs.declared.Input.{Input}
 use Rattle.semantics.specs.declared.Result.{Result}
 use Rattle.semantics.specs.declared.Reading.{Reading}
 use Rattle.semantics.specs.declared.Outcome.{Outcome}
-use Rattle.semantics.specs.Numbers.{freeTruth}
 use Rattle.semantics.specs.Reading.{readingOf, isTrue, resultOutcome}
-
--- 13, of one input: "a free truth given a number over 1" is not taken
-unfoldable pub numberTaken : Input → ℕ → Bool
-numberTaken x n = if x .kind equals freeTruth then ltb n 2 else true
 
 -- the reading that a place of the work list holds: its sort, counted in words, and its number
 unfoldable pub unpackedOf : ℕ → Reading

@@ -29,10 +29,16 @@ pub fn term_report(
         numbers::TRUTH_TERM => only_truth(t.a),
         numbers::WORD_TERM => only_word(terms::word(t)),
         numbers::FREE_TRUTH_TERM => {
-            truth_report(reader::number(lows, t.a), reader::number(highs, t.a))
+            truth_report(
+                reading_tests::number(lows, t.a),
+                reading_tests::number(highs, t.a),
+            )
         }
         numbers::FREE_WORD_TERM => {
-            word_report(reader::number(lows, t.a), reader::number(highs, t.a))
+            word_report(
+                reading_tests::number(lows, t.a),
+                reading_tests::number(highs, t.a),
+            )
         }
         numbers::OPERATOR_TERM => operator_report(t.op, x, y),
         numbers::CHOICE_TERM => choice_report(x, y, z),

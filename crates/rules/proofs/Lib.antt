@@ -1,7 +1,5 @@
-pub mod Follow
-pub mod Held
+pub mod Told
 pub mod Trees
 pub mod OneTurn
 pub mod Scopes
-pub mod Ways
 pub mod Pass

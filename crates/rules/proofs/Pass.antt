@@ -12,9 +12,10 @@ use Rattle.semantics.specs.declared.Record.{Record}
 use Rattle.semantics.specs.Numbers.{inputCount, badTree, badPlace}
 use Rattle.semantics.specs.Records.{recordAt}
 use Rattle.semantics.specs.Rules.{Part, partsOf, insideOf, timesBelow, onceOf, linkedOf, placesOf}
-use Rattle.rules.specs.Passes.{markedOf, toldOf, Cleared, treeAndScopesOf}
+use Rattle.scopes.specs.Scopes.{KeptInScope}
+use Rattle.children.specs.Children.{markedOf}
+use Rattle.rules.specs.Passes.{toldOf, Cleared, treeAndScopesOf}
 use Rattle.rules.specs.Turns.{standsOf, turnsOf}
-use Rattle.rules.specs.Scopes.{KeptInScope}
 use Rattle.rules.proofs.Trees.{Counts, counts-start, counts-next, not-ordered, once-so, tree-by-standing}
 use Rattle.rules.proofs.OneTurn.{turns-stop, turns-end}
 use Rattle.rules.proofs.Scopes.{Kept, kept-start, kept-next, kept-is-in-scope, no-tree, Sees, sees-start, sees-next, sees-end}

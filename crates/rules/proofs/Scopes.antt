@@ -16,9 +16,9 @@ use Rattle.semantics.specs.Numbers.{procedureRecord, letRecord, ifRecord, input
 use Rattle.semantics.specs.Records.{recordAt}
 use Rattle.semantics.specs.Rules.{Part, partsOf, insideOf, timesIn, timesBelow, onceOf, linkedOf, placesOf, moreIn, inScopeAt, scopedOf}
 use Rattle.semantics.proofs.Scopes.{times-here, times-there, not-root, root-scope, child-once, one-part, child-scope}
+use Rattle.scopes.specs.Scopes.{KeptInScope}
 use Rattle.rules.specs.Passes.{Cleared, toldOf}
 use Rattle.rules.specs.Turns.{standsOf}
-use Rattle.rules.specs.Scopes.{KeptInScope}
 
 -- a store past the end of a list
 pub put-past : (m : List ℕ) (i v : ℕ) → length m ≤ i → m ≡ set m i v

@@ -7,7 +7,7 @@ use Prim.Native.Nat.{ℕ, zero, suc, _+_, _-_, _<_, _≤_, min}
 use native.Mathlib.Numerals.{add-one}
 use native.Mathlib.Omega.{arith}
 use lib.ListN.{length, getD, set, length-set}
-use lib.Seq.{set-out, getD-set-same, getD-set-other}
+use lib.Seq.{getD-set-same, getD-set-other}
 use lib.Dec.{eqb}
 use borrow.Author.Tests.{eqb-true, eqb-false, eq-eqb, ne-eqb}
 use Rattle.notation.specs.Notation.{pick, if_equals_then_else_, upTo, every}
@@ -16,19 +16,11 @@ use Rattle.semantics.specs.declared.Record.{Record}
 use Rattle.semantics.specs.Records.{recordAt}
 use Rattle.semantics.specs.Rules.{Part, partsOf, insideOf, timesIn, timesBelow, onceOf, linkedOf}
 use Rattle.semantics.proofs.Scopes.{within}
-use Rattle.rules.specs.Passes.{bumpedOf, markedOf, Cleared}
+use Rattle.children.specs.Children.{bumpedOf, markedOf}
+use Rattle.rules.specs.Passes.{Cleared}
 use Rattle.rules.specs.Turns.{standsOf}
 
 -- ---- the list of marks
-
--- a store within the list, and none past its end
-pub bump-in : (m : List ℕ) (i : ℕ) {x : ℕ} → x ≡ min 2 (getD m i 0 + 1) → set m i x ≡ bumpedOf m i
-unfolding bumpedOf
-bump-in m i e = rw e
-
-pub bump-past : (m : List ℕ) (i : ℕ) → length m ≤ i → m ≡ bumpedOf m i
-unfolding bumpedOf
-bump-past m i h = sym (set-out m i _ h)
 
 -- the marks m of the first n records are f's counts, at most two
 pub record Counts (n : ℕ) (f : ℕ → ℕ) (m : List ℕ) : Type 0 where

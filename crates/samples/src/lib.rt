@@ -69,7 +69,7 @@ fn refusal(
     if fitting::fits(session, table) {} else {
         return numbers::MISFIT;
     }
-    if reader::result_taken(table, session.count, result) {} else {
+    if reading_tests::result_taken(table, session.count, result) {} else {
         return numbers::BAD_RESULT;
     }
     if places < session.count as usize {
@@ -135,7 +135,7 @@ fn read_sample(
     requires { ⌜ Under (now table) count result (now work) ⌝ }
     ensures { λ r. ⌜ r ≡ sampleOutcome inputs (now (table .entry)) count result sample ⌝ ∗ ⌜ Under (now (table .entry)) count result (now (work .exit)) ⌝ }
 {
-    if reader::numbers_taken(inputs, sample) {
+    if reading_tests::numbers_taken(inputs, sample) {
         read_under(table, count, result, sample, work)
     } else {
         Outcome::Refused(numbers::BAD_NUMBER)

@@ -16,6 +16,7 @@ pub mod Fold
 pub mod Reading
 pub mod Under
 pub mod Samples
+pub mod Goals
 pub mod Spans
 pub mod Run
 pub mod PlainRun

@@ -61,6 +61,15 @@ multiplyCode = 3
 abbrev pub bitwiseAndCode : ℕ
 bitwiseAndCode = 4
 
+-- ---- the codes whose gates are few where the second operand is a constant
+-- 7 shift left
+abbrev pub leftCode : ℕ
+leftCode = 7
+
+-- 8 logical shift right
+abbrev pub rightCode : ℕ
+rightCode = 8
+
 -- ---- the codes that need no words
 -- true only for false
 abbrev pub notCode : ℕ
@@ -212,6 +221,10 @@ storeFull = 16
 -- a free word's low exceeds its high
 abbrev pub badSpan : ℕ
 badSpan = 17
+
+-- the text is longer than the lent buffer
+abbrev pub textLong : ℕ
+textLong = 18
 
 -- what no operation answers: a run that would end with what is no value
 abbrev pub noValue : ℕ

@@ -124,3 +124,10 @@ pub enum Outcome {
     Error,
     Refused(u8),
 }
+
+// What a reading is asked to come to: an error, an abort, or a word.
+pub enum Goal {
+    Errs,
+    Aborts,
+    Gives(Word),
+}

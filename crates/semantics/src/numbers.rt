@@ -38,6 +38,11 @@ pub const MULTIPLY_CODE: u8 = 3;
 
 pub const BITWISE_AND_CODE: u8 = 4;
 
+// The codes whose gates are few where the second operand is a constant.
+pub const LEFT_CODE: u8 = 7;
+
+pub const RIGHT_CODE: u8 = 8;
+
 // The codes that need no words.
 // True only for false.
 pub const NOT_CODE: u8 = 13;
@@ -131,6 +136,8 @@ pub const WORK_SHORT: u8 = 15;
 pub const STORE_FULL: u8 = 16;
 // A free word's low exceeds its high.
 pub const BAD_SPAN: u8 = 17;
+// The text is longer than the lent buffer.
+pub const TEXT_LONG: u8 = 18;
 // What no operation answers: a run that would end with what is no value.
 pub const NO_VALUE: u8 = 254;
 

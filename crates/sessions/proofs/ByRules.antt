@@ -21,7 +21,7 @@ use Rattle.semantics.specs.Fits.{fitsOf}
 use Rattle.semantics.specs.Answers.{answerOf}
 use Rattle.semantics.specs.Evaluate.{refusedBy, advanced, evaluated}
 use Rattle.terms.specs.Search.{codeSetting}
-use Rattle.records.specs.Wiped.{wiped}
+use Rattle.slices.specs.Wiped.{wiped}
 use Rattle.terms.specs.Gives.{shown, Gives}
 use Rattle.terms.proofs.Tables.{terms-length}
 use Rattle.terms.proofs.Wiped.{restored}

@@ -36,7 +36,7 @@ fn evaluated(
         session.accepted,
     );
     if o.refusal != 0 {
-        records::wipe(table, (session.count as usize) * 8);
+        slices::wipe(table, (session.count as usize) * 8);
         return Evaluated {
             answer: Answer::Refused(o.refusal),
             session: session,
@@ -67,7 +67,7 @@ pub fn evaluate(session: Session, table: &mut [u8], rule: &[u8], allowance: u16)
             session: session,
         };
     }
-    if rules::bad_depth(allowance) {
+    if record_tests::bad_depth(allowance) {
         return Evaluated {
             answer: Answer::Refused(numbers::BAD_ALLOWANCE),
             session: session,

@@ -37,7 +37,7 @@ impl Standing {
         ensures { λ r. ⌜ Stands (mergeAssumedOf (self .state) guard assumed) (now (table .entry)) (self .count) r (now (table .exit)) ⌝ }
     {
         let state = self.state;
-        let implied = factory::implies(table, self.count, guard, assumed);
+        let implied = formulas::implies(table, self.count, guard, assumed);
         if implied.refusal != 0 {
             return Standing {
                 refusal: implied.refusal,
@@ -45,7 +45,7 @@ impl Standing {
                 state: state,
             };
         }
-        let both = factory::and_of(table, implied.count, state.assumed, implied.number);
+        let both = formulas::and_of(table, implied.count, state.assumed, implied.number);
         Standing {
             refusal: both.refusal,
             count: both.count,
@@ -61,7 +61,7 @@ impl Standing {
         ensures { λ r. ⌜ Stands (mergeAssertedOf (self .state) guard asserted) (now (table .entry)) (self .count) r (now (table .exit)) ⌝ }
     {
         let state = self.state;
-        let implied = factory::implies(table, self.count, guard, asserted);
+        let implied = formulas::implies(table, self.count, guard, asserted);
         if implied.refusal != 0 {
             return Standing {
                 refusal: implied.refusal,
@@ -69,7 +69,7 @@ impl Standing {
                 state: state,
             };
         }
-        let both = factory::and_of(table, implied.count, state.asserted, implied.number);
+        let both = formulas::and_of(table, implied.count, state.asserted, implied.number);
         Standing {
             refusal: both.refusal,
             count: both.count,

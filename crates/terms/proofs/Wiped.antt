@@ -8,7 +8,7 @@ use lib.ListN.{length, getD, take, replicate, length-append, length-replicate, L
 use lib.Seq.{ext-getD, length-take-le, getD-take, getD-append-add}
 use lib.Dec.{ltb}
 use borrow.Author.Tests.{ltb-true, ltb-false}
-use Rattle.records.specs.Wiped.{wiped}
+use Rattle.slices.specs.Wiped.{wiped}
 use Rattle.terms.specs.Gives.{OnlyAppends}
 
 -- a table with room for n terms, zero after them, on which steps were taken

@@ -252,7 +252,7 @@ pub fn make(table: &mut [u8], count: u16, t: Term) -> Made
             number: 0,
         };
     }
-    records::write(&mut table[at..], t.kind, t.op, t.a, t.b, t.c);
+    fields::write(&mut table[at..], t.kind, t.op, t.a, t.b, t.c);
     Made {
         refusal: 0,
         count: count + 1,

@@ -1,15 +1,16 @@
--- The digits that `io::decimal` gives are the number in base ten, and at most five for a u16. Assumes nothing.
-use mathlib.Core.Path.{_≡_, refl, _∙_}
+-- Numbers in base ten: digit by digit, and how many; the digits that `io::decimal` gives are the number in base ten, and at most five for a u16.
+-- Assumes nothing.
+use mathlib.Core.Path.{_≡_, refl, sym, ap, _∙_}
 use mathlib.Core.List.{List, [], _∷_, _++_, append-assoc}
 use Prim.Native.Nat.{ℕ, zero, suc, _+_, _-_, _*_, _/_, _%_, _^_, _<_, _≤_}
 use native.Mathlib.Nat.{pow-suc, one-le-pow, pow-le-pow-right}
 use native.Mathlib.Numerals.{add-one}
 use native.Mathlib.Omega.{arith}
 use mathlib.Core.Bool.{Bool, true, false}
-use lib.Dec.{leb}
-use lib.ListN.{length, take, set}
+use lib.Dec.{leb, ltb}
+use lib.ListN.{length, take, set, length-append}
 use lib.Seq.{take-suc-set}
-use borrow.Author.Tests.{lt-ltb, le-ltb, leb-true, leb-false}
+use borrow.Author.Tests.{lt-ltb, le-ltb, ltb-true, ltb-false, leb-true, leb-false}
 use Rattle.notation.specs.Notation.{with, if_below_then_else_}
 use Rattle.io.specs.Digits.{glyph, digits, Fewest}
 use Rattle.io.specs.Counts.{Counts}
@@ -28,6 +29,44 @@ more-digits : (k n : ℕ) → 10 ≤ n → decimalWithin k (n / 10) ++ (digit (n
 unfolding decimalWithin with if_below_then_else_
 more-digits k n h = rw (le-ltb _ _ h)
 
+-- as many digits as n are enough, and more are as good
+enough : (k j n : ℕ) → n ≤ k → n ≤ j → decimalWithin k n ≡ decimalWithin j n
+enough zero zero n p q = refl
+enough zero (suc j) n p q = sym (one-digit zero n (omega arith)) ∙ one-digit (suc j) n (omega arith)
+enough (suc k) zero n p q = sym (one-digit (suc k) n (omega arith)) ∙ one-digit zero n (omega arith)
+enough (suc k) (suc j) n p q = last (ltb n 10) refl (λ h. enough k j (n / 10) (omega arith) (omega arith))
+  where
+    last : (b : Bool) → ltb n 10 ≡ b → (10 ≤ n → decimalWithin k (n / 10) ≡ decimalWithin j (n / 10)) → decimalWithin (suc k) n ≡ decimalWithin (suc j) n
+    last true e r = let h : n < 10 = ltb-true n 10 e in sym (one-digit (suc k) n h) ∙ one-digit (suc j) n h
+    last false e r =
+        let h : 10 ≤ n = omega (arith, ltb-false n 10 e) in
+        sym (more-digits k n h) ∙ (ap (λ t. t ++ (digit (n % 10) ∷ [])) (r h) ∙ more-digits j n h)
+
+-- ---- a number below ten is its digit; another one is its higher digits, and the lowest
+pub decimal-one : (n : ℕ) → n < 10 → digit n ∷ [] ≡ decimalOf n
+unfolding decimalOf
+decimal-one n h = one-digit n n h
+
+pub decimal-more : (n : ℕ) → 10 ≤ n → decimalOf (n / 10) ++ (digit (n % 10) ∷ []) ≡ decimalOf n
+unfolding decimalOf
+decimal-more n h = go n h refl
+  where
+    go : (m : ℕ) → 10 ≤ m → m ≡ n → decimalWithin (n / 10) (n / 10) ++ (digit (n % 10) ∷ []) ≡ decimalWithin n n
+    go zero h e = absurd (omega arith)
+    go (suc m) h e =
+        ap (λ t. t ++ (digit (n % 10) ∷ [])) (enough (n / 10) m (n / 10) (omega arith) (omega arith)) ∙ (more-digits m n (omega arith) ∙ ap (λ k. decimalWithin k n) e)
+
+-- a number below 10 ^ k has at most k digits
+pub decimal-short : (k n : ℕ) → n < 10 ^ suc k → length (decimalOf n) ≤ suc k
+decimal-short zero n h = rw (sym (decimal-one n (omega arith))) (omega arith)
+decimal-short (suc k) n h = go (ltb n 10) refl (decimal-short k (n / 10) (omega (arith, pow-suc 10 (suc k))))
+  where
+    go : (b : Bool) → ltb n 10 ≡ b → length (decimalOf (n / 10)) ≤ suc k → length (decimalOf n) ≤ suc (suc k)
+    go true e l = rw (sym (decimal-one n (ltb-true n 10 e))) (omega arith)
+    go false e l =
+        rw (sym (decimal-more n (omega (arith, ltb-false n 10 e)))) (omega (arith, length-append (decimalOf (n / 10)) (digit (n % 10) ∷ [])))
+
+-- ---- what `io::decimal` gives
 tens : (n j : ℕ) → Fewest 10 1 n (suc (suc j)) → 10 ^ suc j ≤ n
 tens n j f = let e : suc (suc j) - 1 ≡ suc j = omega arith in rw e at (f .2 (omega arith))
 

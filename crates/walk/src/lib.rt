@@ -205,7 +205,7 @@ fn left(
     requires { ⌜ (length (now leaves) ≡ 6 * leafLimit) × (have ≤ leafLimit) ⌝ }
     ensures { λ r. ⌜ Walks (leftSideOf (walkOf fuel) path a b (leavesIn (now (leaves .entry)) have)) (now (table .entry)) count r (now (leaves .exit)) (now (table .exit)) ⌝ }
 {
-    let guard = factory::and_of(table, count, path, a);
+    let guard = formulas::and_of(table, count, path, a);
     if guard.refusal != 0 {
         return Walked {
             refusal: guard.refusal,
@@ -238,7 +238,7 @@ fn right(
     requires { ⌜ (length (now leaves) ≡ 6 * leafLimit) × (have ≤ leafLimit) ⌝ }
     ensures { λ r. ⌜ Walks (rightSideOf (walkOf fuel) path a c (leavesIn (now (leaves .entry)) have)) (now (table .entry)) count r (now (leaves .exit)) (now (table .exit)) ⌝ }
 {
-    let negated = factory::not_of(table, count, a);
+    let negated = formulas::not_of(table, count, a);
     if negated.refusal != 0 {
         return Walked {
             refusal: negated.refusal,
@@ -324,7 +324,7 @@ fn or_target(table: &mut [u8], count: u16, g: u16, l: Leaf) -> Made
 {
     let t = l.term;
     if t.kind == numbers::PROCEDURE_TERM {
-        return factory::or_of(table, count, g, l.guard);
+        return formulas::or_of(table, count, g, l.guard);
     }
     terms::present(table, count, g)
 }

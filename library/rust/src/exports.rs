@@ -62,6 +62,20 @@ mod c {
             answers: *mut Place,
             answers_len: usize,
         ) -> u8;
+        pub fn desk_clauses(
+            session: *const u8,
+            session_len: usize,
+            table: *const u8,
+            table_len: usize,
+            result: *const u8,
+            result_len: usize,
+            goal: *const u8,
+            goal_len: usize,
+            text: *mut u8,
+            text_len: usize,
+            length: *mut u64,
+            length_len: usize,
+        ) -> u8;
         pub fn desk_run(
             inputs: *const u8,
             inputs_len: usize,
@@ -230,6 +244,32 @@ pub fn spans(session: &[u8], table: &[u8], lows: &[u8], highs: &[u8], reports: &
             highs.len(),
             reports.as_mut_ptr(),
             reports.len(),
+        )
+    }
+}
+
+pub fn clauses(
+    session: &[u8],
+    table: &[u8],
+    result: &[u8],
+    goal: &[u8],
+    text: &mut [u8],
+    length: &mut [u64],
+) -> u8 {
+    unsafe {
+        c::desk_clauses(
+            session.as_ptr(),
+            session.len(),
+            table.as_ptr(),
+            table.len(),
+            result.as_ptr(),
+            result.len(),
+            goal.as_ptr(),
+            goal.len(),
+            text.as_mut_ptr(),
+            text.len(),
+            length.as_mut_ptr(),
+            length.len(),
         )
     }
 }

@@ -1,12 +1,22 @@
 //! The desk for Rust: a session over a table, the rules that are evaluated in it, the readings of their results under
-//! sixteen numbers and under those of many bales at a stroke, what they can be within spans, and plain runs. A shift by the
-//! width of a word or more gives 0 wherever it is worked out, read or run. Byte forms stay inside; `exports` has the
-//! functions over them.
+//! sixteen numbers and under those of many bales at a stroke, what they can be within spans, clauses for a solver, and plain
+//! runs. A shift by the width of a word or more gives 0 wherever it is worked out, read or run. Byte forms stay inside;
+//! `exports` has the functions over them.
 
 pub mod exports;
 pub mod forms;
 
 use forms::{Place, Word, ANSWER, ASSERTED, COUNT, INPUT, READING, REPORT, SAMPLE, SESSION, WORD};
+
+/// The refusal of a text that is longer than the lent buffer.
+const TEXT_LONG: u8 = 18;
+
+/// The variables that a term owns: two for its kind, then its bits.
+const VARIABLES: u64 = Word::BITS as u64 + 2;
+
+/// The kinds of the terms of free inputs.
+const FREE_TRUTH_TERM: u16 = 3;
+const FREE_WORD_TERM: u16 = 4;
 
 /// An input of a session.
 #[derive(Clone, Copy, Debug, PartialEq, Eq)]
@@ -47,6 +57,14 @@ pub enum Reading {
     Procedure(Word),
     Abort,
     Error,
+}
+
+/// What is asked of a reading: that it is an error, an abort, or this word.
+#[derive(Clone, Copy, Debug, PartialEq, Eq)]
+pub enum Goal {
+    Errs,
+    Aborts,
+    Gives(Word),
 }
 
 /// What a term may read as while every free word lies in its span: truths, a word from low to high, or, where its kind is
@@ -174,6 +192,48 @@ impl Desk {
         Ok(reports[asserted] == only_true)
     }
 
+    /// Clauses that can be satisfied exactly where some sixteen numbers make reading an answer reach the goal, as DIMACS CNF
+    /// text for a solver. The numbers that a solver's model stands for are `numbers_of`. Where the clauses for `Goal::Errs` of
+    /// the last accepted answer can't be satisfied, no run of the accepted rules errs (theorem unsatisfied-never-errs in
+    /// `include/desk.h`).
+    pub fn clauses(&self, answer: Answer, goal: Goal) -> Result<String, Refusal> {
+        let (result, goal) = (result_bytes(answer), goal_bytes(goal));
+        let write = |text: &mut [u8]| {
+            let mut length = [0];
+            let refusal = exports::clauses(
+                &self.session,
+                &self.table,
+                &result,
+                &goal,
+                text,
+                &mut length,
+            );
+            (refusal, length[0] as usize)
+        };
+        // no text is empty, so that an empty buffer is told how long this one is
+        let mut text = match write(&mut []) {
+            (TEXT_LONG, length) => vec![0; length],
+            (refusal, _) => return Err(Refusal(refusal)),
+        };
+        accepted(write(&mut text).0)?;
+        Ok(String::from_utf8(text).expect("the text is ASCII"))
+    }
+
+    /// The sixteen numbers that the variables of a model stand for, where `holds` tells which of them are true: those of the
+    /// free inputs' terms, and 0 for a constant input.
+    pub fn numbers_of(&self, holds: impl Fn(u64) -> bool) -> [Word; SAMPLE] {
+        let mut numbers = [0; SAMPLE];
+        for i in 0..self.count() {
+            let [kind, _, input, ..] = self.term(i).expect("a term below the count");
+            if kind == FREE_TRUTH_TERM || kind == FREE_WORD_TERM {
+                let first = u64::from(i) * VARIABLES + 3;
+                let bit = |k: u32| Word::from(holds(first + u64::from(k))) << k;
+                numbers[usize::from(input)] = (0..Word::BITS).map(bit).sum();
+            }
+        }
+        numbers
+    }
+
     /// How many terms the table holds.
     pub fn count(&self) -> u16 {
         two(&self.session, COUNT)
@@ -259,6 +319,15 @@ fn result_bytes(answer: Answer) -> Vec<u8> {
         } => (assumed, asserted, 0, 1),
     };
     pairs(&[assumed, asserted, value, halted])
+}
+
+/// A goal has the form of the reading that it asks for.
+fn goal_bytes(goal: Goal) -> Vec<u8> {
+    words(&match goal {
+        Goal::Gives(word) => [2, word],
+        Goal::Aborts => [8, 0],
+        Goal::Errs => [9, 0],
+    })
 }
 
 fn pairs(numbers: &[u16]) -> Vec<u8> {

@@ -1,7 +1,10 @@
 //! A second evaluator for the yard rule desk, for comparing answers.
 
+mod clauses;
+pub mod cnf;
 pub mod dice;
 mod evaluate;
+mod gates;
 mod opening;
 mod print;
 mod read;
@@ -10,16 +13,18 @@ mod rules;
 mod run;
 mod samples;
 mod session;
+pub mod solver;
 mod spans;
 mod state;
 mod terms;
 pub mod text;
 mod words;
 
+pub use clauses::{clauses, Goal, NoText};
 pub use evaluate::{evaluate, Answer};
 pub use opening::open;
 pub use print::print;
-pub use read::{read, term_readings, ResultOf};
+pub use read::{read, result_of, term_readings, ResultOf};
 pub use records::{records, Record};
 pub use run::run;
 pub use samples::read_all;

@@ -1,3 +1,4 @@
+use crate::evaluate::Answer;
 use crate::session::{fit, is_truth, test_numbers, Session};
 use crate::terms::{Factory, Sort, Term};
 use crate::words::{on_words, shape, Value, Word, AND, IS_PROCEDURE, IS_WORD, NOT, OR, TRUTH};
@@ -10,6 +11,21 @@ pub struct ResultOf {
     pub t: u16,
     pub value: u16,
     pub halted: bool,
+}
+
+/// The result of an accepted evaluation.
+pub fn result_of(answer: Answer) -> Option<ResultOf> {
+    let (s, t, value, halted) = match answer {
+        Answer::Out { s, t, value, .. } => (s, t, value, false),
+        Answer::Halt { s, t, .. } => (s, t, 0, true),
+        Answer::Refused(_) => return None,
+    };
+    Some(ResultOf {
+        s,
+        t,
+        value,
+        halted,
+    })
 }
 
 /// A procedure reads as its record number.

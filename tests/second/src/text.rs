@@ -1,5 +1,6 @@
-//! How the vector files write inputs, numbers, spans and bytes.
+//! How the vector files write inputs, numbers, spans, goals and bytes.
 
+use crate::clauses::Goal;
 use crate::session::Input;
 use crate::spans::Spans;
 
@@ -24,6 +25,15 @@ pub fn spans(fields: &[&str]) -> Option<Spans> {
     Some(Spans {
         lows: ends.map(|(low, _)| low),
         highs: ends.map(|(_, high)| high),
+    })
+}
+
+pub fn goal(fields: &[&str]) -> Option<Goal> {
+    Some(match fields {
+        ["errs"] => Goal::Errs,
+        ["aborts"] => Goal::Aborts,
+        ["gives", word] => Goal::Gives(word.parse().ok()?),
+        _ => return None,
     })
 }
 

@@ -3,17 +3,29 @@
 
 use crate::made::Made;
 use second::dice::{datum, record, Dice};
-use second::{records, Record, Session};
+use second::{records, Record, ResultOf, Session};
 use std::collections::HashSet;
 
 pub struct AnyTable {
     pub session: Session,
     pub table: Vec<u8>,
-    pub truths: Vec<u16>,
+    truths: Vec<u16>,
     /// All terms but bindings.
-    pub values: Vec<u16>,
+    values: Vec<u16>,
     choices: Vec<u16>,
     bindings: Vec<u16>,
+}
+
+impl AnyTable {
+    /// Any of its terms that 14 takes.
+    pub fn result(&self, dice: &mut Dice) -> ResultOf {
+        ResultOf {
+            s: dice.pick(&self.truths),
+            t: dice.pick(&self.truths),
+            value: dice.pick(&self.values),
+            halted: dice.below(8) == 0,
+        }
+    }
 }
 
 /// A table that has so many terms and no room for more, as if two rules had been accepted.

@@ -4,8 +4,8 @@
 use crate::desk;
 use crate::made::FALSE;
 use crate::tally::Tally;
-use second::{evaluate, open, read, read_all, run, spans};
-use second::{Answer, Input, Outcome, ResultOf, Session, Spans, Word};
+use second::{clauses, evaluate, open, read, read_all, run, spans};
+use second::{Answer, Goal, Input, NoText, Outcome, ResultOf, Session, Spans, Word};
 
 /// Tests 4 to 7: a run on good inputs with an allowance of 0 goes no further than 8.
 pub fn second_rule_refusal(bytes: &[u8]) -> u8 {
@@ -202,16 +202,50 @@ pub fn compare_spans(
     (refusal, ours)
 }
 
-pub fn result_of(answer: Answer) -> Option<ResultOf> {
-    let (s, t, value, halted) = match answer {
-        Answer::Out { s, t, value, .. } => (s, t, value, false),
-        Answer::Halt { s, t, .. } => (s, t, 0, true),
-        Answer::Refused(_) => return None,
+/// What the desk answered to a call for a text, with the buffer and the place of its length afterwards.
+pub struct Written {
+    pub refusal: u8,
+    pub buffer: Vec<u8>,
+    pub length: u64,
+}
+
+/// With a buffer of so many bytes; a refused call leaves them all, and the bytes past a text stay. Where the buffer is too
+/// short, the text's length is told all the same.
+pub fn compare_clauses(
+    tally: &mut Tally,
+    session: &Session,
+    table: &[u8],
+    result: &ResultOf,
+    goal: Goal,
+    bytes: usize,
+) -> Written {
+    let mut ours = desk::unwritten(bytes);
+    let mut length = [desk::UNTOLD];
+    let refusal = desk::clauses(
+        &desk::session_bytes(session),
+        table,
+        &desk::result_bytes(result),
+        &desk::goal_bytes(goal),
+        &mut ours,
+        &mut length,
+    );
+    let mut theirs = desk::unwritten(bytes);
+    let (expected, told) = match clauses(session, table, result, goal, bytes) {
+        Ok(text) => {
+            // a faulty second evaluator's may be longer than the buffer
+            let held = text.len().min(bytes);
+            theirs[..held].copy_from_slice(&text[..held]);
+            (0, Some(text.len()))
+        }
+        Err(NoText { refusal, length }) => (refusal, length),
     };
-    Some(ResultOf {
-        s,
-        t,
-        value,
-        halted,
-    })
+    let told = told.map_or(desk::UNTOLD, |length| length as u64);
+    tally.saw("clauses", expected);
+    tally.same("clauses", (refusal, length[0]), (expected, told));
+    tally.same_list("clauses' text", &ours, &theirs);
+    Written {
+        refusal,
+        buffer: ours,
+        length: length[0],
+    }
 }

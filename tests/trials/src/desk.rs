@@ -1,12 +1,12 @@
 //! The desk's exports, with the byte forms of what they take and give.
 
 pub use ::desk::exports::{
-    evaluate, fits, open, read, read_all, rule_refusal, rule_turns, run, spans,
+    clauses, evaluate, fits, open, read, read_all, rule_refusal, rule_turns, run, spans,
 };
 pub use ::desk::forms::{
     Place, ANSWER, HALTED, INPUT, INPUTS, READING, REPORT, SAMPLE, SESSION, WORD,
 };
-use second::{Answer, Input, Outcome, Report, ResultOf, Session, Word};
+use second::{Answer, Goal, Input, Outcome, Report, ResultOf, Session, Word};
 
 pub fn inputs_bytes(inputs: &[Input; 16]) -> Vec<u8> {
     let mut bytes = Vec::new();
@@ -89,6 +89,24 @@ pub fn outcome_bytes(outcome: Outcome) -> (u8, [u8; READING]) {
     bytes[WORD..].copy_from_slice(&number.to_le_bytes());
     (0, bytes)
 }
+
+/// The bytes of the reading that is to be reached.
+pub fn goal_bytes(goal: Goal) -> [u8; READING] {
+    let reached = match goal {
+        Goal::Errs => Outcome::Error,
+        Goal::Aborts => Outcome::Abort,
+        Goal::Gives(word) => Outcome::Word(word),
+    };
+    outcome_bytes(reached).1
+}
+
+/// A buffer for a text before a call: no text has such bytes, and no two places next to each other hold the same.
+pub fn unwritten(bytes: usize) -> Vec<u8> {
+    (0..bytes).map(|at| 0x80 | at as u8).collect()
+}
+
+/// The place of a text's length before a call: no text is so long.
+pub const UNTOLD: u64 = 0xa5a5_a5a5_a5a5_a5a5;
 
 /// A list of answers for samples before a call: no sample has such an answer, and no two places hold the same.
 pub fn unread_samples(answers: usize) -> Vec<Place> {

@@ -1,14 +1,14 @@
 //! Evaluations: the desk and the second evaluator go through the same sessions side by side.
 
 use crate::choices::{called_asserted, chain, halves, procedures};
-use crate::compare::{compare_fits, result_of};
+use crate::compare::compare_fits;
 use crate::desk;
 use crate::made::{FALSE, FREE_TRUTH};
 use crate::rules::{guarded_update, self_application};
 use crate::session_trials::readings;
 use crate::tally::Tally;
 use second::dice::{record, rule, Dice};
-use second::{evaluate, open, Answer, Input, Session};
+use second::{evaluate, open, result_of, Answer, Input, Session};
 
 /// One session, kept by both.
 pub struct Pair {

@@ -8,13 +8,14 @@ use std::process::Command;
 /// An example's name in either language, and its lines.
 type Example = (&'static str, &'static str);
 
-const EXAMPLES: [Example; 3] = [
+const EXAMPLES: [Example; 4] = [
     (
         "printed_case",
         include_str!("../../../library/printed_case.txt"),
     ),
     ("spans", include_str!("../../../library/spans.txt")),
     ("samples", include_str!("../../../library/samples.txt")),
+    ("clauses", include_str!("../../../library/clauses.txt")),
 ];
 
 pub fn all(tally: &mut Tally) {

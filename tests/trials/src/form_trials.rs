@@ -1,15 +1,19 @@
 //! Byte forms of wrong lengths, or with a mark or a zero that is another number: each is refused by its number, in the
 //! operation's order of tests.
 
-use crate::desk::{self, Place, HALTED, INPUT, SAMPLE, UNANSWERED, UNREAD, WORD};
+use crate::desk::{self, Place, HALTED, INPUT, READING, SAMPLE};
+use crate::desk::{UNANSWERED, UNREAD, UNTOLD, WORD};
 use crate::session_trials::small_session;
 use crate::tally::Tally;
 use second::dice::{record, rule};
-use second::{ResultOf, Word};
+use second::{clauses, Goal, ResultOf, Word};
 
 /// How many samples are lent, and a list of reports that is long enough.
 const SAMPLES: usize = 3;
 const REPORTS: usize = 180;
+/// What is to be reached, and that which no form names.
+const GOAL: Goal = Goal::Gives(7);
+const NO_GOAL: [u8; READING] = [0; READING];
 
 const WRONG_LENGTH: u8 = 255;
 
@@ -26,6 +30,7 @@ pub fn all(tally: &mut Tally) {
         marks(tally, &good, other);
     }
     session_bytes(tally, &good);
+    goals(tally, &good);
     orders(tally, &good);
 }
 
@@ -47,6 +52,9 @@ struct Lent {
     reports: Vec<u32>,
     samples: Vec<Word>,
     sample_answers: Vec<Place>,
+    goal: Vec<u8>,
+    text: Vec<u8>,
+    length: Vec<u64>,
 }
 
 /// The number that an export answers, and whether a refused call left what it was lent as it was, but for a work list and
@@ -58,7 +66,7 @@ fn answers(tally: &mut Tally, what: &str, told: Told, number: u8) {
     tally.same(what, told, (number, true));
 }
 
-const CALLS: [(&str, Call); 7] = [
+const CALLS: [(&str, Call); 8] = [
     ("open", Lent::open),
     ("fits", Lent::fits),
     ("evaluate", Lent::evaluate),
@@ -66,6 +74,7 @@ const CALLS: [(&str, Call); 7] = [
     ("read_all", Lent::read_all),
     ("run", Lent::run),
     ("spans", Lent::spans),
+    ("clauses", Lent::clauses),
 ];
 
 impl Lent {
@@ -77,6 +86,7 @@ impl Lent {
             value: 0,
             halted: false,
         };
+        let text = clauses(&session, &table, &result, GOAL, usize::MAX);
         Lent {
             inputs: desk::inputs_bytes(&session.inputs),
             numbers: desk::numbers_bytes(&[0; 16]),
@@ -93,6 +103,9 @@ impl Lent {
             reports: desk::unreported(REPORTS),
             samples: vec![0; SAMPLES * SAMPLE],
             sample_answers: desk::unread_samples(SAMPLES),
+            goal: desk::goal_bytes(GOAL).to_vec(),
+            text: desk::unwritten(text.expect("a text").len()),
+            length: vec![UNTOLD],
         }
     }
 
@@ -120,6 +133,7 @@ impl Lent {
             lent.samples[0] = 2;
             lent.samples.pop();
             lent.sample_answers.pop();
+            lent.text.pop();
         })
     }
 
@@ -208,6 +222,25 @@ impl Lent {
             )
         })
     }
+
+    fn clauses(&self) -> Told {
+        self.call(|lent| {
+            let number = desk::clauses(
+                &lent.session,
+                &lent.table,
+                &lent.result,
+                &lent.goal,
+                &mut lent.text,
+                &mut lent.length,
+            );
+            // a text that is too long tells how long it is
+            if number == 18 {
+                assert!(lent.length[0] > lent.text.len() as u64 && lent.length[0] != UNTOLD);
+                lent.length.clone_from(&self.length);
+            }
+            number
+        })
+    }
 }
 
 /// Every length from 0 to 99 but one.
@@ -224,13 +257,14 @@ fn lengths(tally: &mut Tally, good: &Lent, lent: &Lent) {
     };
     for length in other_lengths(good.session.len()) {
         let other = lent.but(|lent| lent.session.resize(length, 0));
-        let calls: [Call; 6] = [
+        let calls: [Call; 7] = [
             Lent::open,
             Lent::fits,
             Lent::evaluate,
             Lent::read,
             Lent::read_all,
             Lent::spans,
+            Lent::clauses,
         ];
         wrong(tally, "session's length", other, &calls);
     }
@@ -244,7 +278,7 @@ fn lengths(tally: &mut Tally, good: &Lent, lent: &Lent) {
     }
     for length in other_lengths(good.result.len()) {
         let other = lent.but(|lent| lent.result.resize(length, 0));
-        let calls: [Call; 2] = [Lent::read, Lent::read_all];
+        let calls: [Call; 3] = [Lent::read, Lent::read_all, Lent::clauses];
         wrong(tally, "result's length", other, &calls);
     }
     for length in other_lengths(good.reading.len()) {
@@ -256,6 +290,14 @@ fn lengths(tally: &mut Tally, good: &Lent, lent: &Lent) {
         wrong(tally, "lows' length", other, &[Lent::spans]);
         let other = lent.but(|lent| lent.highs.resize(length, 0));
         wrong(tally, "highs' length", other, &[Lent::spans]);
+    }
+    for length in other_lengths(good.goal.len()) {
+        let other = lent.but(|lent| lent.goal.resize(length, 0));
+        wrong(tally, "goal's length", other, &[Lent::clauses]);
+    }
+    for length in other_lengths(good.length.len()) {
+        let other = lent.but(|lent| lent.length.resize(length, UNTOLD));
+        wrong(tally, "length's length", other, &[Lent::clauses]);
     }
 }
 
@@ -281,6 +323,7 @@ fn zeros(tally: &mut Tally, good: &Lent, other: u8) {
     let result = good.but(|lent| lent.result[7] = other);
     answers(tally, "result's zero", result.read(), 14);
     answers(tally, "result's zero", result.read_all(), 14);
+    answers(tally, "result's zero", result.clauses(), 14);
 }
 
 fn marks(tally: &mut Tally, good: &Lent, other: u8) {
@@ -290,10 +333,12 @@ fn marks(tally: &mut Tally, good: &Lent, other: u8) {
         answers(tally, "session's mark", session.fits(), 0);
         answers(tally, "result's mark", result.read(), 0);
         answers(tally, "result's mark", result.read_all(), 0);
+        answers(tally, "result's mark", result.clauses(), 0);
     } else {
         misfit(tally, "session's mark", &session);
         answers(tally, "result's mark", result.read(), 14);
         answers(tally, "result's mark", result.read_all(), 14);
+        answers(tally, "result's mark", result.clauses(), 14);
     }
 }
 
@@ -303,15 +348,43 @@ fn misfit(tally: &mut Tally, what: &str, session: &Lent) {
     answers(tally, what, session.read(), 3);
     answers(tally, what, session.read_all(), 3);
     answers(tally, what, session.spans(), 3);
+    answers(tally, what, session.clauses(), 3);
 }
 
-/// Every other value of every byte of a session: reports and readings of samples are refused where test 3 refuses it.
+/// Every other value of every byte of a session: reports, readings of samples and texts are refused where test 3 refuses it.
 fn session_bytes(tally: &mut Tally, good: &Lent) {
     for at in 0..good.session.len() {
         for other in 0..=255 {
             let lent = good.but(|lent| lent.session[at] = other);
             answers(tally, "a session's byte", lent.spans(), lent.fits().0);
             answers(tally, "a session's byte", lent.read_all(), lent.fits().0);
+            // a text takes longer, and a session that fits has one
+            let none = lent.but(|lent| lent.text.clear());
+            let expected = if lent.fits().0 == 0 { 18 } else { 3 };
+            answers(tally, "a session's byte", none.clauses(), expected);
+        }
+    }
+}
+
+/// A goal of none of the three forms, by 255, before anything else that could be refused: every kind, with each byte after it
+/// zero or not.
+fn goals(tally: &mut Tally, good: &Lent) {
+    let spoiled = good.spoiled();
+    for kind in 0..=255 {
+        for at in 0..READING {
+            let mut goal = vec![0; READING];
+            goal[at] = 1;
+            goal[0] = kind;
+            let word = kind == 2 && goal[1..WORD].iter().all(|&byte| byte == 0);
+            let stop = matches!(kind, 8 | 9) && goal[1..].iter().all(|&byte| byte == 0);
+            let form = |taken| if word || stop { taken } else { WRONG_LENGTH };
+            let lent = good.but(|lent| {
+                lent.goal.clone_from(&goal);
+                lent.text.clear();
+            });
+            answers(tally, "a goal", lent.clauses(), form(18));
+            let lent = spoiled.but(|lent| lent.goal = goal);
+            answers(tally, "a goal first", lent.clauses(), form(3));
         }
     }
 }
@@ -354,6 +427,13 @@ fn orders(tally: &mut Tally, good: &Lent) {
     answers(tally, "spans: then 17", fitting.spans(), 17);
     let spanned = fitting.but(|lent| lent.lows.clone_from(&good.lows));
     answers(tally, "spans: then 15", spanned.spans(), 15);
+
+    let no_goal = all.but(|lent| lent.goal = NO_GOAL.to_vec());
+    answers(tally, "clauses: 255 first", no_goal.clauses(), WRONG_LENGTH);
+    answers(tally, "clauses: then 3", all.clauses(), 3);
+    answers(tally, "clauses: 3 of the table", unfitting.clauses(), 3);
+    answers(tally, "clauses: then 14", fitting.clauses(), 14);
+    answers(tally, "clauses: then 18", formed.clauses(), 18);
 }
 
 /// Each of the three reasons for 15 is there until its list is a good one; what is left then, a sample that 13 refuses, stops

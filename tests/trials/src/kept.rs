@@ -1,8 +1,10 @@
 //! A session of the second evaluator that is kept from its opening, with the rules that it accepted.
 
-use crate::compare::{compare_read, result_of};
+use crate::compare::compare_read;
 use crate::tally::Tally;
-use second::{evaluate, open, read, run, Answer, Input, Outcome, ResultOf, Session, Word};
+use second::{
+    evaluate, open, read, result_of, run, Answer, Input, Outcome, ResultOf, Session, Word,
+};
 
 pub struct Kept {
     pub session: Session,

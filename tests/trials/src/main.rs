@@ -1,18 +1,21 @@
 //! Compares the desk's exports and the printing program with the second evaluator, byte for byte, and the lines of the
 //! library's examples with those wanted. `faults` tries whether faults in the second evaluator are noticed by the trials at
-//! the limits; `limits` with the name of a group makes those of the group alone. `figures` takes times, counts terms and
-//! tries an evaluation in 1 MiB of stack; `bench`, `scopes`, `small`, `speed`, `terms`, `spans`, `samples` and `stack` with a
-//! number of KiB are its parts.
+//! the limits; `limits` with the name of a group makes those of the group alone, and with `first` too ends at the first
+//! difference. `figures` takes times, counts terms and tries an evaluation in 1 MiB of stack; `bench`, `scopes`, `small`,
+//! `speed`, `terms`, `spans`, `samples`, `clauses` and `stack` with a number of KiB are its parts.
 
 mod any_table;
 mod bench;
 mod choices;
+mod clause_speed;
+mod clause_trials;
 mod compare;
 mod desk;
 mod evaluations;
 mod examples;
 mod faults;
 mod form_trials;
+mod grown;
 mod kept;
 mod laid;
 mod limits;
@@ -29,6 +32,7 @@ mod scope_speed;
 mod session_trials;
 mod shapes;
 mod small;
+mod solver_texts;
 mod span_speed;
 mod span_trials;
 mod speed;
@@ -51,6 +55,7 @@ fn main() {
             speed::terms();
             span_speed::run();
             sample_speed::run();
+            clause_speed::run();
             return stack::run(1_024);
         }
         ["bench"] => return bench::run(),
@@ -60,24 +65,15 @@ fn main() {
         ["terms"] => return speed::terms(),
         ["spans"] => return span_speed::run(),
         ["samples"] => return sample_speed::run(),
+        ["clauses"] => return clause_speed::run(),
         ["stack", kibibytes] => return stack::run(kibibytes.parse().expect("a number")),
         ["faults"] => return faults::run(),
-        ["limits", group] => return tell(&limits::group(group).expect("a group of limits")),
+        ["limits", group] => return limits::group(group, Tally::default()),
+        ["limits", group, "first"] => return limits::group(group, Tally::ending_at_first()),
         _ => {}
     }
     let mut tally = trials::all();
     examples::all(&mut tally);
     prints::all(&mut tally);
-    tell(&tally);
-}
-
-/// Fails where there are differences.
-fn tell(tally: &Tally) {
-    println!(
-        "trials: {} comparisons, {} differences",
-        tally.comparisons, tally.differences
-    );
-    if tally.differences != 0 {
-        std::process::exit(1);
-    }
+    tally.tell();
 }

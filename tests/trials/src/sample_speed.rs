@@ -1,13 +1,12 @@
 //! The times of one result read under many bales in one call, beside as many single readings and the second evaluator's
 //! call, as rows of a table. A row says how many of the terms S, T and the value stand on: a call need read no others.
 
-use crate::compare::result_of;
 use crate::desk::{self, Place};
+use crate::grown::{grown, Grown};
 use crate::rules::guarded_update;
 use crate::speed::{in_turn_inputs, least_of, nested_inputs, nested_updates, TABLE};
 use second::dice::Dice;
-use second::{evaluate, open, read_all, records};
-use second::{Answer, Input, Record, ResultOf, Session, Word};
+use second::{read_all, records, Input, Record, ResultOf, Session, Word};
 use std::hint::black_box;
 
 const SAMPLES: usize = 500;
@@ -77,26 +76,13 @@ fn random(terms: u16) -> Vec<Case> {
 }
 
 impl Case {
-    /// Rules in turn until one finds no room for its terms, or all rules are accepted that can be; those that are refused
-    /// otherwise, halt or make few terms are passed over.
     fn grown(inputs: &[Input; 16], terms: u16, rules: impl Iterator<Item = Vec<u8>>) -> Case {
-        const FEW: u16 = 9;
-        let mut table = vec![0; 8 * usize::from(terms)];
-        let mut session = open(inputs, &mut table).expect("a good opening");
-        let mut last = None;
-        for bytes in rules {
-            let (mut next, mut after) = (session, table.clone());
-            let answer = evaluate(&mut next, &mut after, &bytes, 256);
-            if matches!(answer, Answer::Refused(9 | 11)) {
-                break;
-            }
-            let result = result_of(answer).filter(|result| !result.halted);
-            if result.is_some() && next.count >= session.count + FEW {
-                (session, table, last) = (next, after, result);
-            }
-        }
-        table.truncate(8 * usize::from(session.count));
-        Case::new(session, table, last.expect("an accepted rule"))
+        let Grown {
+            session,
+            table,
+            result,
+        } = grown(inputs, terms, rules);
+        Case::new(session, table, result)
     }
 
     fn new(session: Session, table: Vec<u8>, result: ResultOf) -> Case {

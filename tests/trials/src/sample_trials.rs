@@ -2,19 +2,21 @@
 //! about the right lengths; every sample's answer is held against the desk's own single reading too.
 
 use crate::any_table::any_table;
-use crate::compare::{compare_fits, compare_samples, result_of};
+use crate::compare::{compare_fits, compare_samples};
 use crate::desk::{self, Place, SAMPLE};
-use crate::session_trials::{damage, other_sessions, small_session};
+use crate::session_trials::{
+    other_results, other_sessions, other_tables, random_sessions, results_near, small_session,
+};
 use crate::tally::Tally;
 use second::dice::Dice;
-use second::{evaluate, open, ResultOf, Session, Word};
+use second::{evaluate, open, result_of, ResultOf, Session, Word};
 
 pub fn all(tally: &mut Tally) {
-    random_sessions(tally);
+    sessions(tally);
     random_tables(tally);
     damaged_tables(tally);
     damaged_sessions(tally);
-    other_results(tally);
+    damaged_results(tally);
     hundreds(tally);
 }
 
@@ -86,26 +88,23 @@ fn some_samples(dice: &mut Dice, session: &Session) -> Vec<Word> {
     dice.any_samples(&session.inputs, count)
 }
 
-/// Sessions of some rules, each result read under some samples, then with damage.
-fn random_sessions(tally: &mut Tally) {
+/// Each result read under some samples, and others near the terms.
+fn sessions(tally: &mut Tally) {
     let mut dice = Dice(0xba1e);
-    for _ in 0..2_500 {
-        let inputs = dice.inputs();
-        let size = dice.pick(&[272, 512, 4_096, 16_384]);
-        let mut table = vec![0; size];
-        let mut session = open(&inputs, &mut table).expect("a good opening");
-        let mut last = None;
-        for _ in 0..3 {
-            let size = dice.below(30) + 1;
-            let answer = evaluate(&mut session, &mut table, &dice.rule(size), 24);
-            last = result_of(answer).or(last);
-            let Some(result) = last else { continue };
-            results(tally, &mut dice, &session, &table, &result);
+    random_sessions(&mut dice, 2_500, |dice, session, table, result| {
+        for result in &results_near(dice, session, result) {
+            let read = Read {
+                session,
+                table,
+                result,
+            };
+            let numbers = some_samples(dice, session);
+            read.compare(tally, &numbers);
+            if dice.below(3) == 0 {
+                lists(tally, dice, &read, &numbers);
+            }
         }
-        let Some(result) = last else { continue };
-        damage(&mut dice, &mut session, &mut table);
-        results(tally, &mut dice, &session, &table, &result);
-    }
+    });
 }
 
 /// Tables of any terms: what S, T and the value stand on is any part of them.
@@ -117,42 +116,12 @@ fn random_tables(tally: &mut Tally) {
         let refusal = compare_fits(tally, &any.session, &any.table);
         tally.same("a table of any terms", refusal, 0);
         for _ in 0..6 {
-            let result = ResultOf {
-                s: dice.pick(&any.truths),
-                t: dice.pick(&any.truths),
-                value: dice.pick(&any.values),
-                halted: dice.below(8) == 0,
-            };
             let read = Read {
                 session: &any.session,
                 table: &any.table,
-                result: &result,
+                result: &any.result(&mut dice),
             };
             read.compare(tally, &some_samples(&mut dice, &any.session));
-        }
-    }
-}
-
-/// The result, and others near the terms, of which some are refused.
-fn results(tally: &mut Tally, dice: &mut Dice, session: &Session, table: &[u8], result: &ResultOf) {
-    let mut near = || dice.below(u64::from(session.count) + 2) as u16;
-    let (s, t, value) = (near(), near(), near());
-    let other = ResultOf {
-        s: dice.pick(&[0, 1, 2, result.s, s]),
-        t: dice.pick(&[0, 1, 2, result.t, t]),
-        value: dice.pick(&[0, 65_535, session.count, value]),
-        halted: dice.below(2) == 1,
-    };
-    for result in [result, &ResultOf { value, ..*result }, &other] {
-        let read = Read {
-            session,
-            table,
-            result,
-        };
-        let numbers = some_samples(dice, session);
-        read.compare(tally, &numbers);
-        if dice.below(3) == 0 {
-            lists(tally, dice, &read, &numbers);
         }
     }
 }
@@ -195,27 +164,16 @@ fn small_samples() -> [Word; 3 * SAMPLE] {
     numbers
 }
 
-/// Other values of every byte of a small table, which is cut short too.
 fn damaged_tables(tally: &mut Tally) {
     let (session, good) = small_session();
     let result = &small_result(&session);
-    let mut compare = |table: &[u8]| {
+    for table in other_tables(&good) {
         let read = Read {
             session: &session,
-            table,
+            table: &table,
             result,
         };
         read.compare(tally, &small_samples());
-    };
-    for at in 0..good.len() {
-        let mut table = good.clone();
-        for other in (0..=9).chain([11, 32, 33, 255]) {
-            table[at] = other;
-            compare(&table);
-        }
-    }
-    for length in (0..good.len()).step_by(4) {
-        compare(&good[..length]);
     }
 }
 
@@ -235,26 +193,15 @@ fn damaged_sessions(tally: &mut Tally) {
     }
 }
 
-/// Every S, T and value up to some past the count, of a result that is out and of a halt.
-fn other_results(tally: &mut Tally) {
+fn damaged_results(tally: &mut Tally) {
     let (session, table) = small_session();
-    let good = small_result(&session);
-    for n in (0..session.count + 3).chain([8_191, 8_192, 32_768, 65_535]) {
-        for halted in [false, true] {
-            let good = ResultOf { halted, ..good };
-            for result in [
-                ResultOf { s: n, ..good },
-                ResultOf { t: n, ..good },
-                ResultOf { value: n, ..good },
-            ] {
-                let read = Read {
-                    session: &session,
-                    table: &table,
-                    result: &result,
-                };
-                read.compare(tally, &small_samples());
-            }
-        }
+    for result in &other_results(&session, small_result(&session)) {
+        let read = Read {
+            session: &session,
+            table: &table,
+            result,
+        };
+        read.compare(tally, &small_samples());
     }
 }
 

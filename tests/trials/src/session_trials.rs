@@ -1,10 +1,10 @@
 //! Sessions of the second evaluator, whole and damaged: test 3 and readings.
 
-use crate::compare::{compare_fits, compare_read, result_of};
+use crate::compare::{compare_fits, compare_read};
 use crate::made::{FALSE, FREE_TRUTH, FREE_WORD};
 use crate::tally::Tally;
 use second::dice::{record, rule, Dice};
-use second::{evaluate, open, Answer, Input, ResultOf, Session};
+use second::{evaluate, open, result_of, Answer, Input, ResultOf, Session};
 
 pub fn all(tally: &mut Tally) {
     sessions(tally);
@@ -63,6 +63,44 @@ pub fn readings(
         };
         compare_read(tally, session, table, &numbers, &any, count);
     }
+}
+
+/// Sessions of some rules, of which each result is tried, then once more with damage.
+pub fn random_sessions(
+    dice: &mut Dice,
+    sessions: usize,
+    mut each: impl FnMut(&mut Dice, &Session, &[u8], &ResultOf),
+) {
+    for _ in 0..sessions {
+        let inputs = dice.inputs();
+        let size = dice.pick(&[272, 512, 4_096, 16_384]);
+        let mut table = vec![0; size];
+        let mut session = open(&inputs, &mut table).expect("a good opening");
+        let mut last = None;
+        for _ in 0..3 {
+            let size = dice.below(30) + 1;
+            let answer = evaluate(&mut session, &mut table, &dice.rule(size), 24);
+            last = result_of(answer).or(last);
+            let Some(result) = last else { continue };
+            each(dice, &session, &table, &result);
+        }
+        let Some(result) = last else { continue };
+        damage(dice, &mut session, &mut table);
+        each(dice, &session, &table, &result);
+    }
+}
+
+/// A result, and others near the terms, of which some are refused.
+pub fn results_near(dice: &mut Dice, session: &Session, result: &ResultOf) -> [ResultOf; 3] {
+    let mut near = || dice.below(u64::from(session.count) + 2) as u16;
+    let (s, t, value) = (near(), near(), near());
+    let other = ResultOf {
+        s: dice.pick(&[0, 1, 2, result.s, s]),
+        t: dice.pick(&[0, 1, 2, result.t, t]),
+        value: dice.pick(&[0, 65_535, session.count, value]),
+        halted: dice.below(2) == 1,
+    };
+    [*result, ResultOf { value, ..*result }, other]
 }
 
 /// A session of one rule with terms of every kind, in a small table.
@@ -145,6 +183,36 @@ pub fn other_sessions(good: Session) -> Vec<Session> {
         }
     }
     sessions
+}
+
+/// Other values of every byte of a table, which is cut short too.
+pub fn other_tables(good: &[u8]) -> impl Iterator<Item = Vec<u8>> + '_ {
+    let others = || (0..=9).chain([11, 32, 33, 255]);
+    let changed = (0..good.len()).flat_map(move |at| {
+        others().map(move |other| {
+            let mut table = good.to_vec();
+            table[at] = other;
+            table
+        })
+    });
+    let short = (0..good.len()).step_by(4);
+    changed.chain(short.map(|length| good[..length].to_vec()))
+}
+
+/// Every S, T and value up to some past the count, of a result that is out and of a halt.
+pub fn other_results(session: &Session, good: ResultOf) -> Vec<ResultOf> {
+    let mut results = Vec::new();
+    for n in (0..session.count + 3).chain([8_191, 8_192, 32_768, 65_535]) {
+        for halted in [false, true] {
+            let good = ResultOf { halted, ..good };
+            results.extend([
+                ResultOf { s: n, ..good },
+                ResultOf { t: n, ..good },
+                ResultOf { value: n, ..good },
+            ]);
+        }
+    }
+    results
 }
 
 /// Another byte of the table or another number of the session.

@@ -4,7 +4,7 @@ use crate::compare::compare_spans;
 use crate::desk::REPORT;
 use crate::kept::Kept;
 use crate::made::{word_input, FREE_TRUTH, FREE_WORD};
-use crate::session_trials::{damage, other_sessions, small_session};
+use crate::session_trials::{damage, other_sessions, other_tables, small_session};
 use crate::tally::Tally;
 use crate::tree::{bind, error, operator, place, test, word, Tree};
 use second::dice::Dice;
@@ -172,15 +172,8 @@ fn compared(dice: &mut Dice, words: &[u16], size: u64) -> Tree {
 fn damaged_tables(tally: &mut Tally) {
     let (session, good) = small_session();
     let given = Dice(0xda3).spans(&session.inputs);
-    for at in 0..good.len() {
-        let mut table = good.clone();
-        for other in (0..=9).chain([11, 32, 33, 255]) {
-            table[at] = other;
-            compare_spans(tally, &session, &table, &given, 180);
-        }
-    }
-    for length in (0..good.len()).step_by(4) {
-        compare_spans(tally, &session, &good[..length], &given, 180);
+    for table in other_tables(&good) {
+        compare_spans(tally, &session, &table, &given, 180);
     }
 }
 

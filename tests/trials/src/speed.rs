@@ -1,12 +1,13 @@
 //! The times of opening, evaluating and reading beside the second evaluator's, the terms that the rules make, and the
 //! comparisons that the search for an equal term takes; each as rows of a table.
 
-use crate::compare::result_of;
 use crate::desk;
 use crate::rules::guarded_update;
 use crate::tree::{bind, operator, place, test, word, Tree};
 use second::dice::{record, rule, Dice};
-use second::{evaluate, open, read, records, Answer, Input, Record, ResultOf, Session, Word};
+use second::{
+    evaluate, open, read, records, result_of, Answer, Input, Record, ResultOf, Session, Word,
+};
 use std::hint::black_box;
 
 pub const TABLE: usize = 65_536;

@@ -1,4 +1,4 @@
-//! Counts comparisons; the first few differences are told on standard error.
+//! Counts comparisons; the first few differences are told on standard error, and the counts at the end.
 
 use std::collections::BTreeSet;
 use std::fmt::Debug;
@@ -9,10 +9,19 @@ const TOLD: u64 = 20;
 pub struct Tally {
     pub comparisons: u64,
     pub differences: u64,
+    ends_at_first: bool,
     seen: BTreeSet<(&'static str, u8)>,
 }
 
 impl Tally {
+    /// The first difference ends the program.
+    pub fn ending_at_first() -> Tally {
+        Tally {
+            ends_at_first: true,
+            ..Tally::default()
+        }
+    }
+
     /// The second evaluator gave this answer.
     pub fn saw(&mut self, operation: &'static str, answer: u8) {
         self.seen.insert((operation, answer));
@@ -30,10 +39,7 @@ impl Tally {
         if desk == second {
             return;
         }
-        self.differences += 1;
-        if self.differences <= TOLD {
-            eprintln!("{what}: desk {desk:?}, second {second:?}");
-        }
+        self.differs(|| format!("{what}: desk {desk:?}, second {second:?}"));
     }
 
     /// Long lists, of which only the first place that differs is told.
@@ -42,11 +48,31 @@ impl Tally {
         if desk == second {
             return;
         }
-        self.differences += 1;
-        if self.differences <= TOLD {
+        self.differs(|| {
             let at = desk.iter().zip(second).position(|(a, b)| a != b);
             let lengths = (desk.len(), second.len());
-            eprintln!("{what}: first difference at {at:?}, lengths {lengths:?}");
+            format!("{what}: first difference at {at:?}, lengths {lengths:?}")
+        });
+    }
+
+    fn differs(&mut self, difference: impl Fn() -> String) {
+        self.differences += 1;
+        if self.differences <= TOLD {
+            eprintln!("{}", difference());
+        }
+        if self.ends_at_first {
+            self.tell();
+        }
+    }
+
+    /// Ends the program where there are differences.
+    pub fn tell(&self) {
+        println!(
+            "trials: {} comparisons, {} differences",
+            self.comparisons, self.differences
+        );
+        if self.differences != 0 {
+            std::process::exit(1);
         }
     }
 }

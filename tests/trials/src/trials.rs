@@ -2,8 +2,8 @@
 
 use crate::compare::compare_open;
 use crate::tally::Tally;
-use crate::{evaluations, form_trials, limits, long_rules, rule_trials, run_trials};
-use crate::{sample_trials, session_trials, span_trials, vectors};
+use crate::{clause_trials, evaluations, form_trials, limits, long_rules, rule_trials};
+use crate::{run_trials, sample_trials, session_trials, solver_texts, span_trials, vectors};
 use second::dice::Dice;
 use second::{Input, Word};
 
@@ -18,7 +18,9 @@ pub fn all() -> Tally {
     evaluations::all(&mut tally);
     span_trials::all(&mut tally);
     sample_trials::all(&mut tally);
+    clause_trials::all(&mut tally);
     vectors::all(&mut tally);
+    solver_texts::all(&mut tally);
     limits::all(&mut tally);
     for (operation, answers) in ANSWERS {
         for &answer in answers {
@@ -29,7 +31,7 @@ pub fn all() -> Tally {
 }
 
 /// Every answer that some trial must have had.
-const ANSWERS: [(&str, &[u8]); 9] = [
+const ANSWERS: [(&str, &[u8]); 11] = [
     ("open", &[0, 1, 2]),
     ("rule", &[0, 4, 5, 6, 7]),
     ("fits", &[0, 3]),
@@ -42,6 +44,8 @@ const ANSWERS: [(&str, &[u8]); 9] = [
     ("read_all", &[0, 3, 14, 15]),
     ("sample", &[13, 101, 102, 107, 108, 109]),
     ("spans", &[0, 3, 15, 17]),
+    ("clauses", &[0, 3, 14, 18]),
+    ("goal", &[0, 1]),
 ];
 
 fn openings(tally: &mut Tally) {

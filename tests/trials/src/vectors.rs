@@ -1,11 +1,11 @@
 //! The vectors' cases through the desk. What they expect is checked on the second evaluator, by its program `vectors`.
 
-use crate::compare::{compare_open, compare_read, compare_run, compare_spans, result_of};
+use crate::compare::{compare_open, compare_read, compare_run, compare_spans};
 use crate::desk::{word, INPUT, INPUTS, REPORT, WORD};
 use crate::evaluations::Pair;
 use crate::tally::Tally;
 use second::text::{hex, input, sixteen, spans};
-use second::{Answer, Input, ResultOf};
+use second::{result_of, Answer, Input, ResultOf};
 
 const SESSIONS: &str = include_str!("../../vectors/sessions.txt");
 const SPANS: &str = include_str!("../../vectors/spans.txt");

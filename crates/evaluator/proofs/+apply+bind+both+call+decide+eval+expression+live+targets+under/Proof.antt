@@ -13,7 +13,7 @@ use Rattle.semantics.specs.Evaluation.{underOf, letOf, branchesOf, bothOf, targ
 use Rattle.terms.specs.Gives.{from, Leads}
 use Rattle.terms.proofs.Gives.{steps, runs, leads-start, each-end, each-stop, each-next, then-on, then-map, run-stop, run-end, run-on, if-true, gives-value}
 use Rattle.walk.specs.Leaves.{noLeaf}
-use Rattle.merge.specs.Branches.{noBranch}
+use Rattle.branches.specs.Branches.{noBranch}
 use Rattle.evaluator.proofs.Evaluation.{evals, target-passed, target-run, branch-push}
 use borrow.Fn.Kinds.{In}
 use borrow.Fn.PlainCycle.{Measures, is, falls, and}
@@ -57,9 +57,9 @@ use Rattle.expressions.proofs.procedure.Reads as procedure-reads
 use Rattle.expressions.proofs.second.Reads as second-reads
 use Rattle.expressions.proofs.stop.Reads as stop-reads
 use Rattle.expressions.proofs.variable.Reads as variable-reads
-use Rattle.merge.proofs.branch.Reads as branch-reads
+use Rattle.branches.proofs.branch.Reads as branch-reads
 use Rattle.merge.proofs.merge.Reads as merge-reads
-use Rattle.factory.proofs.make_binding.Reads as make-binding-reads
+use Rattle.makers.proofs.make_binding.Reads as make-binding-reads
 use Rattle.parts.proofs.enter.Reads as enter-reads
 use Rattle.parts.proofs.fork.Reads as fork-reads
 use Rattle.parts.proofs.join.Reads as join-reads

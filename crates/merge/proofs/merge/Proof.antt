@@ -1,6 +1,6 @@
 -- `merge::merge` meets its contract: the passes, then the halt test. Assumes nothing.
 use borrow.Author.Needs.{needs}
-use Rattle.merge.proofs.Passes.{merged-then}
+use Rattle.branches.proofs.Passes.{merged-then}
 use Rattle.merge.proofs.merge.Statement.{statement}
 use Rattle.merge.proofs.merge.Tie as tie
 

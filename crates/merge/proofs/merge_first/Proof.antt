@@ -45,10 +45,10 @@ use denote.Exit.{yes}
 use Rattle.semantics.specs.declared.Branch.{Branch}
 use Rattle.semantics.proofs.Branch as G
 use Rattle.semantics.proofs.Branch.Laws as G′
-use Rattle.merge.specs.declared.Carried.{Carried}
-use Rattle.merge.specs.Passes.{passOf, Carries}
-use Rattle.merge.proofs.Carried as K
-use Rattle.merge.proofs.Carried.Laws as K′
+use Rattle.branches.specs.declared.Carried.{Carried}
+use Rattle.branches.specs.Passes.{passOf, Carries}
+use Rattle.branches.proofs.Carried as K
+use Rattle.branches.proofs.Carried.Laws as K′
 use Rattle.merge.proofs.Front.{length-front, LenderKeeps, lends-front, front-back}
 use Rattle.merge.proofs.Turns.{cv}
 use Rattle.merge.proofs.merge_lent as merge-lent

@@ -1,6 +1,6 @@
 -- `merge::merge_passes` meets its contract. Assumes nothing.
 use borrow.Author.Needs.{needs}
-use Rattle.merge.proofs.Passes.{in-passes}
+use Rattle.branches.proofs.Passes.{in-passes}
 use Rattle.merge.proofs.merge_passes.Statement.{statement}
 use Rattle.merge.proofs.merge_passes.Tie as tie
 

@@ -9,7 +9,7 @@ use Rattle.opening.proofs.+open_from.Lts-open_from as open-from-lts
 use Rattle.opening.proofs.input.Reads as input-reads
 use Rattle.opening.proofs.make_input.Reads as make-input-reads
 use Rattle.terms.proofs.present.Reads as present-reads
-use Rattle.factory.proofs.make_binding.Reads as make-binding-reads
+use Rattle.makers.proofs.make_binding.Reads as make-binding-reads
 use Rattle.opening.proofs.+open_from.{statement}
 use Rattle.opening.proofs.+open_from.Tie.{close}
 use Rattle.opening.proofs.Inputs.{open-end, open-stop, open-stop-later, open-on}

@@ -1,5 +1,5 @@
 -- `rules::both` meets its contract. Assumes nothing.
-use Rattle.rules.proofs.Follow.{tests}
+use Rattle.record_tests.proofs.Follow.{tests}
 use Rattle.rules.proofs.both.Statement.{statement}
 use Rattle.rules.proofs.both.Tie as tie
 

@@ -2,8 +2,8 @@
 use borrow.Author.Needs.{needs}
 use native.Mathlib.Omega.{arith}
 use Rattle.semantics.specs.Rules.{ruleRefusalOf}
+use Rattle.record_tests.proofs.Follow.{tests, good-size}
 use Rattle.rules.specs.Turns.{ruleTurnsOf}
-use Rattle.rules.proofs.Follow.{tests, good-size}
 use Rattle.rules.proofs.check.Statement.{statement}
 use Rattle.rules.proofs.check.Tie as tie
 

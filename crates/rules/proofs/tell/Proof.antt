@@ -1,6 +1,6 @@
 -- `rules::tell` meets its contract, for no child, one and two. Assumes nothing.
 use borrow.Author.Needs.{needs}
-use Rattle.rules.proofs.Held.{tell-none, tell-one, tell-two}
+use Rattle.rules.proofs.Told.{tell-none, tell-one, tell-two}
 use Rattle.rules.proofs.tell.Statement.{statement}
 use Rattle.rules.proofs.tell.Tie as tie
 

@@ -16,8 +16,8 @@ use Rattle.walk.proofs.+left+right+walk.Lts-right as right-lts
 use Rattle.walk.proofs.walk.Reads as walk
 use Rattle.walk.proofs.walk.Kinds as walk-kinds
 use Rattle.walk.proofs.+left+right+walk.Lts-walk as walk-lts
-use Rattle.factory.proofs.and_of.Reads as and-of-reads
-use Rattle.factory.proofs.not_of.Reads as not-of-reads
+use Rattle.formulas.proofs.and_of.Reads as and-of-reads
+use Rattle.formulas.proofs.not_of.Reads as not-of-reads
 use Rattle.terms.proofs.known.Reads as known-reads
 use Rattle.terms.proofs.term.Reads as term-reads
 use Rattle.walk.proofs.leaf.Reads as leaf-reads

@@ -45,16 +45,18 @@ impl FaultyTrials {
         FaultyTrials { program }
     }
 
-    /// How many differences the trials of a group tell of a fault; or what they tell where they do not end.
-    pub fn differences(&self, group: &str, fault: usize) -> Result<u64, String> {
+    /// Whether the trials of a group come to a difference with a fault; or what they tell where they do not end.
+    pub fn notice(&self, group: &str, fault: usize) -> Result<bool, String> {
         let output = Command::new(&self.program)
-            .args(["limits", group])
+            .args(["limits", group, "first"])
             .env("FAULT", fault.to_string())
             .output()
             .expect("the trials");
         let lines = String::from_utf8_lossy(&output.stdout);
         let told = lines.trim_end().strip_suffix(" differences");
-        told.and_then(|line| line.rsplit(' ').next()?.parse().ok())
+        let differences = told.and_then(|line| line.rsplit(' ').next()?.parse::<u64>().ok());
+        differences
+            .map(|differences| differences > 0)
             .ok_or_else(|| String::from_utf8_lossy(&output.stderr).to_string())
     }
 }

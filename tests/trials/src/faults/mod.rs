@@ -15,7 +15,7 @@ pub fn run() {
     let faults: Vec<Fault> = limits::groups().flat_map(edits::of_group).collect();
     let trials = FaultyTrials::build(&faults);
     for group in limits::groups() {
-        assert_eq!(trials.differences(group, 0), Ok(0), "{group}: no fault");
+        assert_eq!(trials.notice(group, 0), Ok(false), "{group}: no fault");
     }
     let queue = Mutex::new((1..).zip(&faults));
     let unnoticed = Mutex::new(0);
@@ -25,10 +25,8 @@ pub fn run() {
         let Some((number, Fault { group, name, .. })) = next else {
             break;
         };
-        match trials.differences(group, number) {
-            Ok(differences) if differences > 0 => {
-                println!("{group}, {name}: {differences} differences");
-            }
+        match trials.notice(group, number) {
+            Ok(true) => println!("{group}, {name}: noticed"),
             other => {
                 println!("{group}, {name}: not noticed: {other:?}");
                 *unnoticed.lock().expect("a count") += 1;

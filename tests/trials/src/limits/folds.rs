@@ -4,14 +4,14 @@
 use super::every_kind::{every_kind, LAST, LESS, NINE, NOT, SUM};
 use super::fitting::expect;
 use super::{damaged_at_times, evaluate};
-use crate::compare::{compare_fits, result_of};
+use crate::compare::compare_fits;
 use crate::evaluations::Pair;
 use crate::made::{free_inputs, word_input, Made, FREE_TRUTH, FREE_WORD};
 use crate::session_trials::readings;
 use crate::tally::Tally;
 use crate::tree::{abort, bind, call, error, operator, place, procedure, test, truth, word, Tree};
 use second::dice::{record, Dice};
-use second::{records, Record, Word};
+use second::{records, result_of, Record, Word};
 
 pub fn all(tally: &mut Tally) {
     zeros(tally);

@@ -2,6 +2,7 @@
 //! 02's requests change. A line over a trial has the sentence that it tries. `tests/second/faults` has for each group the faults that it must notice.
 
 mod acceptances;
+mod clauses;
 mod depths;
 mod every_kind;
 mod fitting;
@@ -22,14 +23,16 @@ mod terms;
 
 use crate::compare::compare_fits;
 use crate::evaluations::Pair;
-use crate::made::Made;
+use crate::made::{Made, FALSE, FREE_TRUTH};
 use crate::tally::Tally;
 use crate::tree::Tree;
+use every_kind::TRUE_TERM;
 use second::dice::Dice;
+use second::{Input, ResultOf};
 
 type Group = (&'static str, fn(&mut Tally));
 
-const GROUPS: [Group; 17] = [
+const GROUPS: [Group; 18] = [
     ("openings", openings::all),
     ("rule_records", rule_records::all),
     ("fitting", fitting::all),
@@ -44,6 +47,7 @@ const GROUPS: [Group; 17] = [
     ("readings", readings::all),
     ("samples", samples::all),
     ("spans", spans::all),
+    ("clauses", clauses::all),
     ("stores", stores::all),
     ("orders", orders::all),
     ("prints", prints::all),
@@ -59,12 +63,12 @@ pub fn groups() -> impl Iterator<Item = &'static str> {
     GROUPS.into_iter().map(|(name, _)| name)
 }
 
-/// Nothing where there is no such group.
-pub fn group(name: &str) -> Option<Tally> {
-    let (_, group) = GROUPS.iter().find(|(other, _)| *other == name)?;
-    let mut tally = Tally::default();
+/// One group alone.
+pub fn group(name: &str, mut tally: Tally) {
+    let group = GROUPS.iter().find(|(other, _)| *other == name);
+    let (_, group) = group.expect("a group of limits");
     group(&mut tally);
-    Some(tally)
+    tally.tell();
 }
 
 fn fits(tally: &mut Tally, made: &Made) -> u8 {
@@ -84,6 +88,40 @@ fn damaged_at_times(dice: &mut Dice, tree: &Tree) -> Vec<u8> {
     }
     bytes
 }
+
+/// A result that every table has.
+const GOOD: ResultOf = ResultOf {
+    s: TRUE_TERM,
+    t: TRUE_TERM,
+    value: TRUE_TERM,
+    halted: false,
+};
+
+/// A table of 320 bytes that 3 takes, whose last input is a free truth, and others that it refuses.
+fn tables_about_three() -> [(Made, Option<u8>); 5] {
+    let mut inputs = [FALSE; 16];
+    inputs[15] = FREE_TRUTH;
+    let good = Made::open(&inputs, 40);
+    [
+        (good.clone(), None),
+        (good.over(319), Some(3)),
+        (
+            good.but(|session| session.inputs[0] = Input { kind: 4, value: 0 }),
+            Some(3),
+        ),
+        (good.but(|session| session.count += 1), Some(3)),
+        (good.but(|session| session.t = 90), Some(3)),
+    ]
+}
+
+/// A result that 14 takes over the first of these tables, and others that it refuses.
+const RESULTS_ABOUT_FOURTEEN: [(ResultOf, Option<u8>); 5] = [
+    (GOOD, None),
+    (ResultOf { s: 90, ..GOOD }, Some(14)),
+    (ResultOf { t: 18, ..GOOD }, Some(14)),
+    (ResultOf { value: 90, ..GOOD }, Some(14)),
+    (ResultOf { value: 18, ..GOOD }, Some(14)),
+];
 
 /// The first of the refusals that are there, or 0.
 fn first(refusals: &[Option<u8>]) -> u8 {

@@ -4,6 +4,7 @@ use super::every_kind::{
     every_kind, filled, Sort, CHOICE, CHOSEN, FALSE_TERM, FREE_TRUTH_TERM, FREE_WORD_TERM, LAST,
     LAST_TRUTH_TERM, NINE, PROCEDURE, TERMS, TRUE_TERM,
 };
+use super::GOOD;
 use crate::compare::{compare_read, compare_run};
 use crate::made::{Made, FREE_TRUTH};
 use crate::tally::Tally;
@@ -19,13 +20,6 @@ pub fn all(tally: &mut Tally) {
     outcomes(tally);
     wrong_operands(tally);
 }
-
-const GOOD: ResultOf = ResultOf {
-    s: TRUE_TERM,
-    t: TRUE_TERM,
-    value: TRUE_TERM,
-    halted: false,
-};
 
 /// With a work list that is long enough.
 fn read(tally: &mut Tally, made: &Made, numbers: &[Word; 16], result: &ResultOf) -> u8 {
@@ -55,10 +49,27 @@ fn numbers(tally: &mut Tally) {
 }
 
 /// The terms, and numbers at and past the count, which no test of a result takes, as bindings.
-pub fn numbers_of_terms() -> impl Iterator<Item = (u16, Sort)> {
+fn numbers_of_terms() -> impl Iterator<Item = (u16, Sort)> {
     let past = [LAST + 1, LAST + 2, 39, 40, 65_535];
     let past = past.map(|number| (number, Sort::Binding));
     TERMS.into_iter().chain(past)
+}
+
+/// Each of these as S, as T and as the value over `every_kind`, of a result that is out and of a halt, and whether 14 takes it.
+pub fn results_of_terms() -> Vec<(ResultOf, Option<u8>)> {
+    let mut results = Vec::new();
+    for (number, sort) in numbers_of_terms() {
+        let no_truth = (sort != Sort::Truth).then_some(14);
+        let no_value = (sort == Sort::Binding).then_some(14);
+        for halted in [false, true] {
+            let [mut assumed, mut asserted, mut given] = [ResultOf { halted, ..GOOD }; 3];
+            (assumed.s, asserted.t, given.value) = (number, number, number);
+            // a halt's value is not looked at
+            let no_value = no_value.filter(|_| !halted);
+            results.extend([(assumed, no_truth), (asserted, no_truth), (given, no_value)]);
+        }
+    }
+    results
 }
 
 /// "14: the result's S or T is no truth below the count", also of a halt

@@ -3,7 +3,7 @@
 
 use super::damaged_at_times;
 use super::operators::WORDS;
-use crate::compare::{compare_fits, compare_read, compare_run, compare_samples, result_of};
+use crate::compare::{compare_fits, compare_read, compare_run, compare_samples};
 use crate::desk;
 use crate::evaluations::Pair;
 use crate::made::{word_input, FALSE, FREE_TRUTH, FREE_WORD};
@@ -11,7 +11,7 @@ use crate::session_trials::readings;
 use crate::tally::Tally;
 use crate::tree::{bind, operator, test, word, Tree};
 use second::dice::{datum, Dice};
-use second::{read, run, Input, Outcome, Record, ResultOf, Word, WIDTH};
+use second::{read, result_of, run, Input, Outcome, Record, ResultOf, Word, WIDTH};
 
 pub fn all(tally: &mut Tally) {
     every_amount(tally);

@@ -1,12 +1,13 @@
 //! "In the bales' order, the answers hold just what single readings would give, a refusal by 13 included."
 
-use super::{read, sample, word, Sample, GOOD, REFUSED};
+use super::{read, sample, word, Sample, REFUSED};
 use crate::bench::{operators, ors, procedures};
 use crate::desk::{Place, SAMPLE};
 use crate::limits::every_kind::{
     every_kind, operands_of, Sort, BINDING, CHOSEN, FALSE_TERM, FREE_TRUTH_TERM, FREE_WORD_TERM,
     LAST, LAST_TRUTH_TERM, NOT, PROCEDURE, SUM, TERMS, TRUE_TERM,
 };
+use crate::limits::GOOD;
 use crate::made::{Made, FREE_WORD};
 use crate::tally::Tally;
 use second::dice::record;

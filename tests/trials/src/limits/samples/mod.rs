@@ -5,7 +5,6 @@ mod answers;
 mod refusals;
 mod wrapped;
 
-use super::every_kind::TRUE_TERM;
 use crate::compare::compare_samples;
 use crate::desk::{Place, SAMPLE};
 use crate::made::Made;
@@ -19,13 +18,6 @@ pub fn all(tally: &mut Tally) {
 }
 
 type Sample = [Word; SAMPLE];
-
-const GOOD: ResultOf = ResultOf {
-    s: TRUE_TERM,
-    t: TRUE_TERM,
-    value: TRUE_TERM,
-    halted: false,
-};
 
 /// What a sample is answered that 13 refuses.
 const REFUSED: Place = 13;

@@ -1,15 +1,15 @@
 //! "Refusals 3, 14 and 15 come first and stop the whole call; 15 also covers numbers that aren't whole bales of sixteen, and
 //! an answers list whose length isn't the count of bales."
 
-use super::{sample, GOOD, REFUSED};
+use super::{sample, REFUSED};
 use crate::compare::compare_samples;
 use crate::desk::SAMPLE;
-use crate::limits::every_kind::{every_kind, filled, Sort};
-use crate::limits::first;
-use crate::limits::readings::numbers_of_terms;
+use crate::limits::every_kind::{every_kind, filled};
+use crate::limits::readings::results_of_terms;
+use crate::limits::{first, tables_about_three, GOOD, RESULTS_ABOUT_FOURTEEN};
 use crate::made::{Made, FALSE, FREE_TRUTH, FREE_WORD};
 use crate::tally::Tally;
-use second::{Input, ResultOf, Word};
+use second::{ResultOf, Word};
 
 pub fn all(tally: &mut Tally) {
     work_lists(tally);
@@ -119,61 +119,26 @@ fn formulas_and_values(tally: &mut Tally) {
     let made = every_kind();
     let work = usize::from(made.session.count);
     let samples = [sample(1, 5, 1), sample(2, 5, 0)];
-    for (number, sort) in numbers_of_terms() {
-        let no_truth = if sort == Sort::Truth { 0 } else { 14 };
-        let no_value = if sort == Sort::Binding { 14 } else { 0 };
-        for halted in [false, true] {
-            let good = ResultOf { halted, ..GOOD };
-            for (result, expected) in [
-                (ResultOf { s: number, ..good }, no_truth),
-                (ResultOf { t: number, ..good }, no_truth),
-                (
-                    ResultOf {
-                        value: number,
-                        ..good
-                    },
-                    if halted { 0 } else { no_value },
-                ),
-            ] {
-                for answers in [0, 1, 2] {
-                    let lists = Lists {
-                        work,
-                        numbers: samples[..answers].as_flattened(),
-                        answers,
-                    };
-                    let refusal = refusal(tally, &made, &result, &lists);
-                    tally.same("S, T and a value", refusal, expected);
-                }
-            }
+    for (result, bad_result) in results_of_terms() {
+        for answers in [0, 1, 2] {
+            let lists = Lists {
+                work,
+                numbers: samples[..answers].as_flattened(),
+                answers,
+            };
+            let refusal = refusal(tally, &made, &result, &lists);
+            tally.same("S, T and a value", refusal, first(&[bad_result]));
         }
     }
 }
 
 /// Every two of the tests, and all of them; 13, which a single reading makes between 3 and 14, refuses no call.
 fn orders(tally: &mut Tally) {
-    let mut inputs = [FALSE; 16];
-    inputs[15] = FREE_TRUTH;
-    let good = Made::open(&inputs, 40);
-    let tables = [
-        (good.clone(), None),
-        (good.over(319), Some(3)),
-        (
-            good.but(|session| session.inputs[0] = Input { kind: 4, value: 0 }),
-            Some(3),
-        ),
-        (good.but(|session| session.count += 1), Some(3)),
-        (good.but(|session| session.t = 90), Some(3)),
-    ];
-    let results = [
-        (GOOD, None),
-        (ResultOf { s: 90, ..GOOD }, Some(14)),
-        (ResultOf { t: 18, ..GOOD }, Some(14)),
-        (ResultOf { value: 90, ..GOOD }, Some(14)),
-        (ResultOf { value: 18, ..GOOD }, Some(14)),
-    ];
+    let tables = tables_about_three();
+    let good = &tables[0].0;
     let count = usize::from(good.session.count);
     for (made, unfit) in &tables {
-        for (result, bad_result) in &results {
+        for (result, bad_result) in &RESULTS_ABOUT_FOURTEEN {
             for number in [1, 2] {
                 let numbers = [number; 3 * SAMPLE];
                 for (work, length, answers) in lists_about(count) {

@@ -1,0 +1,9 @@
+pub mod Gates
+pub mod Sums
+pub mod Products
+pub mod Shifts
+pub mod Counts
+pub mod Operators
+pub mod Amounts
+pub mod Order
+pub mod Wide

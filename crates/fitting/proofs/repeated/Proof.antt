@@ -1,8 +1,0 @@
--- `fitting::repeated` meets its contract. Assumes nothing.
-use borrow.Author.Needs.{needs}
-use Rattle.fitting.proofs.Marks.{searched}
-use Rattle.fitting.proofs.repeated.Statement.{statement}
-use Rattle.fitting.proofs.repeated.Tie as tie
-
-pub repeated-spec : {M : Type 1} → statement M
-repeated-spec = tie.close (tie.spec (λ c κs. search needs) (λ c. search searched) (λ c. search needs) (λ c. search needs))

@@ -1,0 +1,2 @@
+pub mod InTurn
+mod Signs

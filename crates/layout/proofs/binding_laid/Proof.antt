@@ -1,0 +1,9 @@
+-- `layout::binding_laid` meets its contract. Assumes nothing.
+use borrow.Author.Needs.{needs}
+use Rattle.notation.proofs.Follow.{tests}
+use Rattle.layout.proofs.binding_laid.Statement.{statement}
+use Rattle.layout.proofs.binding_laid.Tie as tie
+
+pub binding-laid-spec : {M : Type 1} → statement M
+binding-laid-spec =
+    tie.close (tie.spec (λ c κs. search needs) (λ c κs. search needs) (λ c. search tests depth 12) (λ c. search tests depth 12) (λ c. search tests depth 12))

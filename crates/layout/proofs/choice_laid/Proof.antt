@@ -1,0 +1,11 @@
+-- `layout::choice_laid` meets its contract. Assumes nothing.
+use borrow.Author.Needs.{needs}
+use Rattle.notation.proofs.Follow.{tests}
+use Rattle.layout.proofs.choice_laid.Statement.{statement}
+use Rattle.layout.proofs.choice_laid.Tie as tie
+
+pub choice-laid-spec : {M : Type 1} → statement M
+choice-laid-spec =
+    tie.close
+    (tie.spec (λ c κs. search needs) (λ c κs. search needs) (λ c κs. search needs) (λ c. search tests depth 12) (λ c. search tests depth 12)
+    (λ c. search tests depth 12))

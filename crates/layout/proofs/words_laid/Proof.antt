@@ -1,0 +1,11 @@
+-- `layout::words_laid` meets its contract. Assumes nothing.
+use borrow.Author.Needs.{needs}
+use Rattle.notation.proofs.Follow.{tests}
+use Rattle.layout.proofs.words_laid.Statement.{statement}
+use Rattle.layout.proofs.words_laid.Tie as tie
+
+pub words-laid-spec : {M : Type 1} → statement M
+words-laid-spec =
+    tie.close
+    (tie.spec (λ c κs. search needs) (λ c κs. search needs) (λ c. search tests depth 12) (λ c κs. search needs) (λ c. search tests depth 12)
+    (λ c. search tests depth 12))

@@ -1,9 +1,0 @@
--- `merge::passes_two` meets its contract. Assumes nothing.
-use borrow.Author.Needs.{needs}
-use Rattle.merge.proofs.Passes.{in-passes-two}
-use Rattle.merge.proofs.passes_two.Statement.{statement}
-use Rattle.merge.proofs.passes_two.Tie as tie
-
-pub passes-two-spec : {M : Type 1} → statement M
-passes-two-spec =
-    tie.close (tie.spec (λ c κs. search needs) (λ c κs. search needs) (λ c κs. search needs) (λ c. search needs) (λ c. search in-passes-two))

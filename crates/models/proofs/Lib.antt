@@ -1,0 +1,11 @@
+pub mod Held
+pub mod Codes
+pub mod Says
+pub mod ByKind
+pub mod Meets
+pub mod Readings
+pub mod Exist
+pub mod Goals
+pub mod Inputs
+pub mod Theorems
+pub mod NeverErrs

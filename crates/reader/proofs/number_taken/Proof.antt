@@ -1,9 +1,0 @@
--- `reader::number_taken` meets its contract. Assumes nothing.
-use Rattle.notation.proofs.Follow.{values}
-use Rattle.reader.specs.Reader.{numberTaken}
-use Rattle.reader.proofs.number_taken.Statement.{statement}
-use Rattle.reader.proofs.number_taken.Tie as tie
-
-pub number-taken-spec : {M : Type 1} → statement M
-unfolding numberTaken
-number-taken-spec = tie.close (tie.spec (λ c. search values) (λ c. search values))

@@ -1,7 +1,0 @@
--- `reader::truth_reading` meets its contract. Assumes nothing.
-use borrow.Author.Needs.{needs}
-use Rattle.reader.proofs.truth_reading.Statement.{statement}
-use Rattle.reader.proofs.truth_reading.Tie as tie
-
-pub truth-reading-spec : {M : Type 1} → statement M
-truth-reading-spec = tie.close (tie.spec (λ c κs. search needs) (λ c. cc))

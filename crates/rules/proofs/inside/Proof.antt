@@ -1,9 +1,0 @@
--- `rules::inside` meets its contract. Assumes nothing.
-use Rattle.semantics.specs.Rules.{insideOf}
-use Rattle.rules.proofs.Follow.{tests}
-use Rattle.rules.proofs.inside.Statement.{statement}
-use Rattle.rules.proofs.inside.Tie as tie
-
-pub inside-spec : {M : Type 1} → statement M
-unfolding insideOf
-inside-spec = tie.close (tie.spec (λ c. search tests) (λ c. search tests))

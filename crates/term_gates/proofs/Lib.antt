@@ -1,0 +1,4 @@
+pub mod Numbered
+pub mod Moving
+pub mod ByKind
+pub mod Tiny
