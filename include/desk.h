@@ -30,11 +30,13 @@
  *   16 the store is full
  *   17 a free word's low is above its high
  *   18 the text is longer than the lent buffer; the text's length is written
+ *   19 more than 24 free bits: a free truth is one, a free word sixteen, whatever its span is
  *
  * and one more is the library's own, which comes before all of them:
  *
- *  255 a session, numbers (but those of bales), lows, highs, a result, a goal, or the place of an answer, a reading or a
- *      text's length, of another length than its form has; a goal that is not of its form
+ *  255 a session, numbers (but those of bales), lows, highs, a result, a goal, or the place of an answer, a reading, a
+ *      text's length or a witness, of another length than its form has; a goal that is not of its form. The lows and the highs of
+ *      desk_witness may both be empty; only one of them may not
  *
  * The operators of a rule are those of document 01 with the shifts of document 02: a shift by 16 or more gives 0, to the
  * left and to the right, where its term is made, where it is read and in a plain run. A session that a library without
@@ -76,12 +78,13 @@ typedef uint32_t desk_place;
  *  73  zero
  *
  * numbers, 32 bytes: the number for input i stands at 2 * i, a word; a constant ignores its own. The lows and the highs of
- * desk_spans have this form too: there every input but a free word ignores its own
+ * desk_spans and desk_witness have this form too: there every input but a free word ignores its own
  *
  * samples, a list of type desk_word. A sample is the sixteen numbers of a bale: the number of sample n for input i is number
  * 16 * n + i; a constant ignores its own
  *
- * result, 8 bytes: what desk_read and desk_read_all read; an answer begins with it
+ * result, 8 bytes: what desk_read and desk_read_all read, and what desk_clauses and desk_witness ask about; an answer begins
+ * with it
  *   0  S, two bytes
  *   2  T, two bytes
  *   4  value: the number of a term, two bytes; of a halt it is not looked at
@@ -97,12 +100,17 @@ typedef uint32_t desk_place;
  *   1  zero
  *   2  its number, a word: 0 or 1 of a truth, the word, a procedure's record; 0 of an abort and of an error
  *
- * goal, 4 bytes: what desk_clauses asks of a reading, in the form of the reading
+ * goal, 4 bytes: what desk_clauses and desk_witness ask of a reading, in the form of the reading
  *   0  DESK_WORD, DESK_ABORT or DESK_ERROR
  *   1  zero
  *   2  the word; 0 of an abort and of an error
  *
  * a text's length, one number of type uint64_t: written by desk_clauses
+ *
+ * witness, 34 bytes: written by desk_witness
+ *   0  found mark: 1, or 0 where no reading reaches the goal
+ *   1  zero
+ *   2  the reading's numbers, 32 bytes, in the form of numbers; 0 of a constant input, and all of them where none is found
  *
  * a sample's answer, one number of type desk_place: written by desk_read_all for each sample, that of sample n as number n. It
  * is a kind times 65,536, which is two to the power of a word's bits, plus a number: DESK_SAMPLE_KIND and DESK_SAMPLE_NUMBER
@@ -126,6 +134,8 @@ enum {
     DESK_READING = 2 * DESK_WORD_BYTES,
     DESK_GOAL = DESK_READING,
     DESK_LENGTH = 1,
+    DESK_WITNESS_NUMBERS = DESK_WORD_BYTES,
+    DESK_WITNESS = DESK_WITNESS_NUMBERS + DESK_NUMBERS,
     DESK_REPORT = 3,
     DESK_LEAST_TABLE = 272,
     DESK_MOST_TABLE = 65536,
@@ -266,6 +276,29 @@ uint8_t desk_clauses(const uint8_t *session, size_t session_len,
                      const uint8_t *goal, size_t goal_len,
                      uint8_t *text, size_t text_len,
                      uint64_t *length, size_t length_len);
+
+/* Shows a bale that does it: the first sixteen numbers under which reading a result gives the goal, comparing inputs from 0 up
+ * as plain numbers, or that there are none; none that 13 refuses are among them, and constant inputs have 0. Lows and highs are
+ * spans as desk_spans has them, and then only numbers within them count; both of length 0 are no spans. At most 24 bits are free
+ * in all, a truth being one and a word sixteen, with spans or without. The work list is as for desk_read. Reading the result
+ * under the numbers that are found gives the goal, under none before them does it, and where none are found, under none at all
+ * (theorems witness-reaches, witness-first and none-means-none). Answers 255, 3, 14, 17, 19 or 15, or 0.
+ *
+ * The search halves boxes of numbers and passes over those in which the ranges of the terms show that nothing reaches the goal.
+ * Where the ranges never show it, the result is read under up to 16,777,216 numbers; docs/PERFORMANCE.md has times.
+ *
+ * What a gin may be told: take a session that was opened by desk_open and changed only by desk_evaluate, with the table that
+ * these left, and the result of its last accepted rule. If none are found for DESK_ERROR, no run of the accepted rules under
+ * numbers within the spans errs (theorem none-never-errs); under numbers that are found the run comes to the goal (theorem
+ * witness-runs). */
+uint8_t desk_witness(const uint8_t *session, size_t session_len,
+                     const uint8_t *table, size_t table_len,
+                     const uint8_t *result, size_t result_len,
+                     const uint8_t *goal, size_t goal_len,
+                     const uint8_t *lows, size_t lows_len,
+                     const uint8_t *highs, size_t highs_len,
+                     desk_place *work, size_t work_len,
+                     uint8_t *witness, size_t witness_len);
 
 #ifdef __cplusplus
 }

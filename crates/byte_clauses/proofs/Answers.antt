@@ -15,7 +15,8 @@ use Rattle.semantics.specs.Numbers.{misfit, badResult}
 use Rattle.dimacs.specs.declared.Written.{Written}
 use Rattle.dimacs.specs.Write.{writeOf}
 use Rattle.forms.specs.Forms.{sessionLength, resultLength, readingLength, wrongLength, sessionIn, resultIn}
-use Rattle.byte_clauses.specs.Clauses.{goalIn, clausesUnformed, lengthSaid, deskClauses}
+use Rattle.goal_forms.specs.Goals.{goalIn}
+use Rattle.byte_clauses.specs.Clauses.{clausesUnformed, lengthSaid, deskClauses}
 
 -- where no form is refused, the list has one number
 pub formed-one : (session result goal : List ℕ) (l : ℕ) {k : ℕ} → k ≡ clausesUnformed session result goal l → k ≡ 0 → l ≡ 1

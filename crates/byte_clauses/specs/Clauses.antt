@@ -1,36 +1,15 @@
 -- Clauses over byte forms, on all arguments: the answer, 0 or the number of a refusal; the buffer for the text and the list of the text's length then.
 -- A refused call leaves both as they were, but for 18, which says the length. Assumes nothing.
 use Prim.Native.Nat.{ℕ}
-use mathlib.Core.Bool.{Bool, true, false}
 use mathlib.Core.List.{List}
 use lib.Dec.{eqb}
 use lib.ListN.{length, set}
 use Rattle.notation.specs.Notation.{with, if_equals_then_else_, unless_then_else_}
-use Rattle.words.specs.Words.{wordBytes}
-use Rattle.semantics.specs.declared.Goal.{Goal}
-use Rattle.semantics.specs.declared.Goal.the-variants.{Errs, Aborts, Gives}
-use Rattle.semantics.specs.Numbers.{wordTerm, abortRecord, errorRecord, misfit, badResult}
-use Rattle.semantics.specs.Records.{wordAt}
+use Rattle.semantics.specs.Numbers.{misfit, badResult}
 use Rattle.dimacs.specs.declared.Written.{Written}
 use Rattle.dimacs.specs.Write.{writeOf}
 use Rattle.forms.specs.Forms.{sessionLength, resultLength, readingLength, wrongLength, sessionIn, sessionFormed, resultIn}
-
--- ---- a goal has the form of a reading: what it is and its number, each as a word. It is a word, an abort or an error, of which these have no number.
-unfoldable pub goalFormed : List ℕ → Bool
-goalFormed s =
-    with (wordAt s 0) λ k.
-    if k equals wordTerm then true else
-    with (wordAt s wordBytes) λ n.
-    if k equals abortRecord then eqb n 0 else
-    if k equals errorRecord then eqb n 0 else
-    false
-
-unfoldable pub goalIn : List ℕ → Goal
-goalIn s =
-    with (wordAt s 0) λ k.
-    if k equals abortRecord then Aborts else
-    if k equals errorRecord then Errs else
-    Gives (wordAt s wordBytes)
+use Rattle.goal_forms.specs.Goals.{goalFormed, goalIn}
 
 -- 255 of the session, the result, the goal and the list of the length, which has l numbers, and of a goal that is not of its form; 3 of a session
 -- that is not of its form; else 0

@@ -1,50 +1,8 @@
 // Clauses over byte forms: session, result and goal are forms, the text goes into a lent buffer, and its length into a list of
-// one number. A goal has the form of the reading that it asks for. No public function has a `requires`.
-use semantics::Goal;
+// one number. No public function has a `requires`.
 use semantics::numbers;
-use words::Word;
 ghost use mathlib.Core.Path.{_≡_};
-ghost use Rattle.byte_clauses.specs.Clauses.{goalFormed, goalIn, clausesUnformed, deskClauses};
-
-// Where a goal's number stands, after its kind.
-const NUMBER: u16 = words::BYTES as u16;
-
-const WORD: Word = numbers::WORD_TERM as Word;
-
-const ABORT: Word = numbers::ABORT_RECORD as Word;
-
-const ERROR: Word = numbers::ERROR_RECORD as Word;
-
-// A word and its number, an abort or an error.
-fn goal_formed(goal: &[u8]) -> bool
-    ensures { λ r. ⌜ r ≡ goalFormed (now (goal .entry)) ⌝ }
-{
-    let kind = forms::word_at(goal, 0);
-    if kind == WORD {
-        return true;
-    }
-    let number = forms::word_at(goal, NUMBER);
-    if kind == ABORT {
-        return number == 0;
-    }
-    if kind == ERROR {
-        return number == 0;
-    }
-    false
-}
-
-fn goal_in(goal: &[u8]) -> Goal
-    ensures { λ r. ⌜ r ≡ goalIn (now (goal .entry)) ⌝ }
-{
-    let kind = forms::word_at(goal, 0);
-    if kind == ABORT {
-        return Goal::Aborts;
-    }
-    if kind == ERROR {
-        return Goal::Errs;
-    }
-    Goal::Gives(forms::word_at(goal, NUMBER))
-}
+ghost use Rattle.byte_clauses.specs.Clauses.{clausesUnformed, deskClauses};
 
 // The refusal of a form of another length, then of a goal and of a session that is not of its form; else 0.
 fn clauses_unformed(session: &[u8], result: &[u8], goal: &[u8], lengths: usize) -> u8
@@ -62,7 +20,7 @@ fn clauses_unformed(session: &[u8], result: &[u8], goal: &[u8], lengths: usize) 
     if lengths != 1 {
         return forms::WRONG_LENGTH;
     }
-    if goal_formed(goal) {} else {
+    if goal_forms::goal_formed(goal) {} else {
         return forms::WRONG_LENGTH;
     }
     if forms::session_formed(session) {
@@ -91,7 +49,7 @@ pub fn clauses(
         forms::session_in(session),
         table,
         forms::result_in(result),
-        goal_in(goal),
+        goal_forms::goal_in(goal),
         text,
     );
     if written.refusal == numbers::MISFIT {

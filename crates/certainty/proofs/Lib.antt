@@ -8,5 +8,6 @@ pub mod Free
 pub mod Ends
 pub mod Listed
 pub mod SpansHold
+pub mod Errs
 pub mod NoReadingErrs
 pub mod SamplesTold

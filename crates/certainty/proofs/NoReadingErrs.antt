@@ -1,6 +1,6 @@
 -- NO READING ERRS: where the asserted formula of a session kept from its opening can only be true, no reading in the spans is an error, and no run of the
 -- accepted rules is. Assumes nothing.
-use mathlib.Core.Path.{_≡_, refl, sym, ap, subst, _∙_}
+use mathlib.Core.Path.{_≡_, sym, ap, subst, _∙_}
 use mathlib.Core.Bool.{Bool, true, false}
 use mathlib.Core.List.{List, [], _∷_}
 use Prim.Native.Nat.{ℕ, _≤_}
@@ -11,14 +11,12 @@ use Rattle.semantics.specs.declared.Term.{Term}
 use Rattle.semantics.specs.declared.Input.{Input}
 use Rattle.semantics.specs.declared.State.{State}
 use Rattle.semantics.specs.declared.Outcome.{Outcome}
-use Rattle.semantics.specs.declared.Outcome.the-variants.{Error}
 use Rattle.semantics.specs.Numbers.{inputCount}
 use Rattle.semantics.specs.Terms.{termsIn}
 use Rattle.semantics.specs.Opening.{badTableSize, inputTaken}
 use Rattle.semantics.specs.Reading.{isTrue, nth, readings}
 use Rattle.semantics.specs.Spans.{onlyTrue, reportAt, reportsIn, reportIn}
-use Rattle.semantics.specs.Run.{Value, truth, word, procedure, binding, none, Ended, gives, aborts, errs, spends}
-use Rattle.semantics.specs.PlainRun.{valueGiven, endedOutcome}
+use Rattle.semantics.specs.Run.{Value, truth, Ended, gives, errs}
 use Rattle.semantics.specs.History.{History, begun, calledAll, runOfRules}
 use Rattle.soundness.proofs.Link.{readingIn, Small, true-same, reading-link}
 use Rattle.soundness.proofs.Sim.{ends, on}
@@ -29,6 +27,7 @@ use Rattle.demands.proofs.Demand3.{accepts, live-all, demand-3}
 use Rattle.certainty.specs.Certain.{Words, Within, NoReadingErrs}
 use Rattle.certainty.proofs.Worded.{HistoryWords, history-words}
 use Rattle.certainty.proofs.Covers.{reads-true}
+use Rattle.certainty.proofs.Errs.{error-errs}
 use Rattle.certainty.proofs.Listed.{Given, given, report-read}
 use Rattle.certainty.proofs.SpansHold.{AllSure, all-sure, spans-cover}
 
@@ -42,22 +41,6 @@ no-errs : (s t : Bool) (v : Value) (o : Ended) → t ≡ true → on s t (gives 
 no-errs true true v o i e k = let z : _≡_ {A = ℕ} 0 1 = cc in omega arith
 no-errs false true v o i e k = let z : _≡_ {A = ℕ} 0 1 = cc in omega arith
 no-errs s false v o i e k = let z : _≡_ {A = ℕ} 0 1 = cc in omega arith
-
--- only a run that errs has an error for its outcome: no value is one
-value-no-error : (v : Value) → valueGiven v ≡ Error → ⊥
-unfolding valueGiven
-value-no-error (truth b) e = let z : _≡_ {A = ℕ} 0 1 = cc in omega arith
-value-no-error (word w) e = let z : _≡_ {A = ℕ} 0 1 = cc in omega arith
-value-no-error (procedure i v) e = let z : _≡_ {A = ℕ} 0 1 = cc in omega arith
-value-no-error (binding v w) e = let z : _≡_ {A = ℕ} 0 1 = cc in omega arith
-value-no-error none e = let z : _≡_ {A = ℕ} 0 1 = cc in omega arith
-
-error-errs : (o : Ended) → endedOutcome o ≡ Error → o ≡ errs
-unfolding endedOutcome
-error-errs (gives v) e = absurd (value-no-error v e)
-error-errs aborts e = let z : _≡_ {A = ℕ} 0 1 = cc in absurd (omega arith)
-error-errs errs e = refl
-error-errs spends e = let z : _≡_ {A = ℕ} 0 1 = cc in absurd (omega arith)
 
 -- ---- of a history, under sixteen numbers within the spans
 module _ (xs : List Input) (sixteen : length xs ≡ inputCount) (good : every inputTaken xs ≡ true) (l : ℕ) (size : badTableSize l ≡ false) (ns : List ℕ) (many : inputCount ≤ length ns)

@@ -41,7 +41,7 @@ module _ (op : ℕ) (v w : Reading) (p : v .number < wordLimit) (q : w .number <
       go false = result-word op 0 h (omega arith)
 
   -- a code that gives truths
-  truth-covers : givesTruthOf op ≡ true → Covers (operationReading op v w) bothTruths
+  pub truth-covers : givesTruthOf op ≡ true → Covers (operationReading op v w) bothTruths
   unfolding operationReading with if_then_else_
   truth-covers h = go (operandsAreWords op v w)
     where

@@ -83,7 +83,7 @@ module _ {v w : Reading} {x y : Report} (c : Covers v x) (d : Covers w y) where
   truth-code-covers = passes-covers v
 
   -- "Code 13 makes no term of its own", and there is no other in a table that is laid out
-  operator-covers : (ts : List Term) (op a b : ℕ) → operandsLaidOut ts op a b ≡ true → Covered op
+  pub operator-covers : (ts : List Term) (op a b : ℕ) → operandsLaidOut ts op a b ≡ true → Covered op
   unfolding operandsLaidOut if_equals_then_else_ if_below_then_else_
   operator-covers ts op a b h =
       by-test (eqb op 0) _ _ h (λ i e. never e) λ i h.
@@ -137,7 +137,7 @@ module _ (n : ℕ) (us : List Term) (t : Term) (h : laidOut n us t ≡ true) whe
 
   module _ (lows highs ns : List ℕ) (w : Sure lows highs ns t) (x y z : Reading) (u v q : Report) (c : Covers x u) (d : Covers y v) (e : Covers z q) where
     -- a term, of those that it names
-    term-covers : Covers (termReading ns t x y z) (termReport lows highs t u v q)
+    pub term-covers : Covers (termReading ns t x y z) (termReport lows highs t u v q)
     unfolding termReading termReport with
     term-covers =
         eq-covers _ _ (λ k. a-truth {n = t .a} {l = t .a} {h = t .a} (omega arith) (omega arith) (constant-small n us t h k))

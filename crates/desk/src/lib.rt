@@ -12,6 +12,8 @@
 //             it is, times 65,536, and its number; of a sample that 13 refuses 13 alone
 //   goal       4 bytes: as a reading, 2 a word and the word, 8 an abort and 0, 9 an error and 0
 //   length    a list of one number of eight bytes: that of the text's bytes
+//   spans     two forms of numbers, the lows and the highs; or two empty ones, where none are given
+//   hit       34 bytes: 1 or 0, whether there is one, and its 16 numbers, each as a word; all zero where there is none
 // A form of another length than its own is refused by 255 before anything else, and so is a goal that is not of its form; inputs of another length, and what stands
 // in a form (a pad byte that is not zero, a mark over 1), by the operation's own number in its order of tests: inputs by
 // 2, a session by 3, a result by 14. A refusal leaves what is lent as it was, but for the work list and the store, which
@@ -31,6 +33,7 @@ ghost use Rattle.byte_running.specs.Run.{deskRun};
 ghost use Rattle.byte_spans.specs.Spans.{deskSpans};
 ghost use Rattle.byte_samples.specs.Samples.{deskReadAll};
 ghost use Rattle.byte_clauses.specs.Clauses.{deskClauses};
+ghost use Rattle.byte_witness.specs.Witness.{deskWitness};
 
 // Opens a session over a table and writes it.
 #[no_mangle]
@@ -155,4 +158,21 @@ pub extern "C" fn desk_clauses(
     ensures { λ r. ⌜ (r, now (text .exit), now (length .exit)) ≡ deskClauses (now (session .entry)) (now (table .entry)) (now (result .entry)) (now (goal .entry)) (now (text .entry)) (now (length .entry)) ⌝ }
 {
     byte_clauses::clauses(session, table, result, goal, text, length)
+}
+
+// Looks for the first reading that reaches a goal, inside spans where they are given, and writes it.
+#[no_mangle]
+pub extern "C" fn desk_witness(
+    session: &[u8],
+    table: &[u8],
+    result: &[u8],
+    goal: &[u8],
+    lows: &[u8],
+    highs: &[u8],
+    work: &mut [Place],
+    hit: &mut [u8],
+) -> u8
+    ensures { λ r. ⌜ (r, now (work .exit), now (hit .exit)) ≡ deskWitness (now (session .entry)) (now (table .entry)) (now (result .entry)) (now (goal .entry)) (now (lows .entry)) (now (highs .entry)) (now (work .entry)) (now (hit .entry)) ⌝ }
+{
+    byte_witness::witness(session, table, result, goal, lows, highs, work, hit)
 }

@@ -1,3 +1,4 @@
 pub mod Loops
 pub mod Whole
 pub mod Begun
+pub mod Few

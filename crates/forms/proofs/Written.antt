@@ -27,7 +27,7 @@ pub put-whole : (s vs : List ℕ) → length s ≡ length vs → {y : List ℕ} 
 put-whole s vs h e = e ∙ sets-whole s vs h
 
 -- stores that go on where others ended
-sets-then : (vs ws s : List ℕ) (i j : ℕ) → j ≡ i + length vs → sets (sets s i vs) j ws ≡ sets s i (vs ++ ws)
+pub sets-then : (vs ws s : List ℕ) (i j : ℕ) → j ≡ i + length vs → sets (sets s i vs) j ws ≡ sets s i (vs ++ ws)
 sets-then [] ws s i j e = let q : j ≡ i = omega arith in rw q
 sets-then (v ∷ vs) ws s i j e = sets-then vs ws (set s i v) (suc i) j (omega arith)
 

@@ -217,7 +217,7 @@ fn put_two(s: &mut [u8], at: u32, v: u16)
 }
 
 // A word, the low half first.
-fn put_word(s: &mut [u8], at: u16, w: Word)
+pub fn put_word(s: &mut [u8], at: u16, w: Word)
     ensures { λ _. ⌜ now (s .exit) ≡ sets (now (s .entry)) at (wordBytesOf w) ⌝ }
 {
     put_two(s, at as u32, words::low(w));

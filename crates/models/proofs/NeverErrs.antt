@@ -2,7 +2,7 @@
 -- is an error, and no run of the accepted rules is. Assumes nothing.
 use mathlib.Core.Path.{_≡_, refl, sym, ap, subst, _∙_}
 use mathlib.Core.Bool.{Bool, true, false}
-use mathlib.Core.List.{List, [], _∷_}
+use mathlib.Core.List.{List}
 use Prim.Native.Nat.{ℕ, _<_, _≤_}
 use native.Mathlib.Omega.{arith}
 use lib.ListN.{length}
@@ -17,15 +17,16 @@ use Rattle.semantics.specs.Numbers.{inputCount, badResult}
 use Rattle.semantics.specs.Terms.{termsIn}
 use Rattle.semantics.specs.Fits.{fitsOf}
 use Rattle.semantics.specs.Reading.{numbersTaken, resultTaken, readOutcome, readOf}
-use Rattle.semantics.specs.Run.{Ended, errs}
+use Rattle.semantics.specs.Run.{Ended}
 use Rattle.semantics.specs.PlainRun.{endedOutcome}
-use Rattle.semantics.specs.History.{History, Accepted, begun, calledAll, ranAll, runOfRules}
+use Rattle.semantics.specs.History.{History, begun, calledAll, runOfRules}
 use Rattle.demands.specs.Demand3.{Stands}
 use Rattle.demands.proofs.Holds.{holds-fits}
 use Rattle.demands.proofs.Live.{Live, live-begun}
 use Rattle.demands.proofs.Demand3.{accepts, live-all, demand-3}
 use Rattle.certainty.specs.Certain.{Words}
 use Rattle.certainty.proofs.Worded.{HistoryWords, history-words}
+use Rattle.certainty.proofs.Errs.{errs-some, errs-error}
 use Rattle.clauses.specs.Clauses.{clausesOfCall}
 use Rattle.models.specs.Models.{Satisfiable, UnsatisfiedNeverErrs}
 use Rattle.models.proofs.Theorems.{some-work, satisfiable}
@@ -35,16 +36,6 @@ read-refused : (x : Session) (s ns : List ℕ) (r : Result) (work : List ℕ) �
     → readOf x s ns r work .0 ≡ Refused badResult
 unfolding readOf readOutcome unless_then_else_
 read-refused x s ns r work f t g = rw (f, t, g)
-
--- a run that errs has a rule
-errs-some : (xs : List Input) (ns : List ℕ) (rs : List Accepted) → runOfRules xs ns rs ≡ errs → 0 < length rs
-unfolding runOfRules ranAll
-errs-some xs ns [] e = let z : _≡_ {A = ℕ} 0 1 = cc in absurd (omega arith)
-errs-some xs ns (r ∷ rs) e = omega arith
-
-errs-error : (o : Ended) → o ≡ errs → endedOutcome o ≡ Error
-unfolding endedOutcome
-errs-error o e = rw e
 
 -- ---- of a history, under sixteen numbers
 module _ (xs : List Input) (sixteen : length xs ≡ inputCount) (h : History) (same : h .session .inputs ≡ xs) (fits : fitsOf (h .session) (h .table) ≡ true) (worded : HistoryWords h) (stands : Stands xs h)

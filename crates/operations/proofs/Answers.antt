@@ -20,7 +20,7 @@ use Rattle.semantics.specs.Evaluate.{badDepth}
 use Rattle.semantics.specs.Reading.{numbersTaken, resultTaken, readOutcome, readOf}
 use Rattle.semantics.specs.Run.{inputsBound}
 use Rattle.semantics.specs.PlainRun.{storedOutcome, startedOf, placesIn, runOutcome, runPlainlyOf}
-use Rattle.samples.specs.Marked.{outcomeIn}
+use Rattle.samples.specs.Answers.{outcomeIn}
 use Rattle.slices.specs.Wiped.{wiped}
 use Rattle.slices.proofs.Wiped.{wiped-all}
 

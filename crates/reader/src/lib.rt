@@ -50,7 +50,7 @@ fn held_reading(held: &[Place], k: u16) -> Reading
 }
 
 // The reading in a place; 0 is nothing.
-fn unpack(n: Place) -> Reading
+pub fn unpack(n: Place) -> Reading
     ensures { λ r. ⌜ r ≡ unpackedOf n ⌝ }
 {
     Reading {

@@ -46,7 +46,7 @@ pub fn term_report(
     }
 }
 
-fn truth_report(low: Word, high: Word) -> Report
+pub fn truth_report(low: Word, high: Word) -> Report
     ensures { λ r. ⌜ r ≡ truthReport low high ⌝ }
 {
     Report {
@@ -56,7 +56,7 @@ fn truth_report(low: Word, high: Word) -> Report
     }
 }
 
-fn word_report(low: Word, high: Word) -> Report
+pub fn word_report(low: Word, high: Word) -> Report
     ensures { λ r. ⌜ r ≡ wordReport low high ⌝ }
 {
     Report {
@@ -78,7 +78,7 @@ fn only_word(w: Word) -> Report
     word_report(w, w)
 }
 
-fn open_report() -> Report
+pub fn open_report() -> Report
     ensures { λ r. ⌜ r ≡ openReport ⌝ }
 {
     Report {
@@ -88,7 +88,7 @@ fn open_report() -> Report
     }
 }
 
-fn both_truths() -> Report
+pub fn both_truths() -> Report
     ensures { λ r. ⌜ r ≡ bothTruths ⌝ }
 {
     truth_report(0, 1)
@@ -101,7 +101,7 @@ fn all_words() -> Report
 }
 
 // An operator term, by its code.
-fn operator_report(op: u8, x: Report, y: Report) -> Report
+pub fn operator_report(op: u8, x: Report, y: Report) -> Report
     ensures { λ r. ⌜ r ≡ operatorReport op x y ⌝ }
 {
     match op {
@@ -225,7 +225,7 @@ fn greatest(a: Word, b: Word) -> Word
     if a <= b { b } else { a }
 }
 
-fn are_spans(x: Report, y: Report) -> bool
+pub fn are_spans(x: Report, y: Report) -> bool
     ensures { λ r. ⌜ r ≡ areSpans x y ⌝ }
 {
     if x.sort == numbers::WORD_TERM {
@@ -259,7 +259,7 @@ fn choice_report(x: Report, y: Report, z: Report) -> Report
 }
 
 // It can only be true.
-fn only_true(x: Report) -> bool
+pub fn only_true(x: Report) -> bool
     ensures { λ r. ⌜ r ≡ onlyTrue x ⌝ }
 {
     if x.sort == numbers::TRUTH_TERM {
@@ -270,7 +270,7 @@ fn only_true(x: Report) -> bool
 }
 
 // It can only be false.
-fn only_false(x: Report) -> bool
+pub fn only_false(x: Report) -> bool
     ensures { λ r. ⌜ r ≡ onlyFalse x ⌝ }
 {
     if x.sort == numbers::TRUTH_TERM {

@@ -14,8 +14,9 @@ use Rattle.semantics.specs.Reading.{readOutcome, readOf}
 use Rattle.semantics.specs.Samples.{sampleAt, samplesFrom, answerPlace, sampleAnswer, sampleRefusal, readAllOf}
 use Rattle.semantics.proofs.Samples.{SamplesTaken, samples-length, sample-mapped, samples-taken}
 use Rattle.under.specs.Marks.{MarksUnder}
-use Rattle.samples.specs.Marked.{Under, sampleOutcome, Answers}
-use Rattle.samples.proofs.Marked.{under-by}
+use Rattle.marked.specs.Marked.{Under}
+use Rattle.marked.proofs.Marked.{under-by}
+use Rattle.samples.specs.Answers.{sampleOutcome, Answers}
 
 module _ (x : Session) (s : List ℕ) (r : Result) (numbers work answers : List ℕ) {k : ℕ} (ek : k ≡ sampleRefusal x s r (length numbers) (length work) (length answers)) where
   pub all-refused : (k ≡ 0 → ⊥) → {y : List ℕ} → y ≡ replicate (length work) 0 → (k, y, answers) ≡ readAllOf x s r numbers work answers

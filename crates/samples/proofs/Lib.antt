@@ -1,3 +1,3 @@
-mod Marked
+mod Ways
 mod Lists
 mod Answers

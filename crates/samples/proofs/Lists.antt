@@ -14,7 +14,7 @@ use Rattle.semantics.specs.declared.Result.{Result}
 use Rattle.semantics.specs.declared.Outcome.{Outcome}
 use Rattle.semantics.specs.Numbers.{inputCount}
 use Rattle.semantics.specs.Samples.{sampleAt, answerPlace}
-use Rattle.samples.specs.Marked.{sampleOutcome, Answers}
+use Rattle.samples.specs.Answers.{sampleOutcome, Answers}
 
 -- ---- a sample: its first i numbers are in place
 module _ (numbers : List ℕ) (j : ℕ) (i : ℕ) (m : List ℕ) (long : length m ≡ inputCount) (inv : take i m ≡ take i (drop (inputCount * j) numbers)) where

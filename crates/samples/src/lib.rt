@@ -4,7 +4,6 @@
 use reader::Place;
 use semantics::Input;
 use semantics::Outcome;
-use semantics::Reading;
 use semantics::Result;
 use semantics::Session;
 use semantics::numbers;
@@ -15,13 +14,9 @@ ghost use Prim.Native.Nat.{_+_, _*_, _≤_};
 ghost use lib.ListN.{length, replicate};
 ghost use Rattle.words.specs.Words.{wordLimit};
 ghost use Rattle.semantics.specs.Numbers.{inputCount};
-ghost use Rattle.semantics.specs.Terms.{termsIn};
-ghost use Rattle.semantics.specs.Reading.{readings, readIn};
-ghost use Rattle.semantics.specs.Under.{Closed};
 ghost use Rattle.semantics.specs.Samples.{sampleAt, answerPlace, sampleRefusal, readAllOf};
-ghost use Rattle.reader.specs.Reader.{unpackedOf};
-ghost use Rattle.under.specs.Marks.{markPlace, markIn};
-ghost use Rattle.samples.specs.Marked.{Under, ReadsMarked, outcomeIn, sampleOutcome, Answers};
+ghost use Rattle.marked.specs.Marked.{Under};
+ghost use Rattle.samples.specs.Answers.{outcomeIn, sampleOutcome, Answers};
 
 // How many numbers a sample has.
 const SAMPLE: usize = numbers::INPUT_COUNT as usize;
@@ -136,7 +131,7 @@ fn read_sample(
     ensures { λ r. ⌜ r ≡ sampleOutcome inputs (now (table .entry)) count result sample ⌝ ∗ ⌜ Under (now (table .entry)) count result (now (work .exit)) ⌝ }
 {
     if reading_tests::numbers_taken(inputs, sample) {
-        read_under(table, count, result, sample, work)
+        marked::read_under(table, count, result, sample, work)
     } else {
         Outcome::Refused(numbers::BAD_NUMBER)
     }
@@ -158,48 +153,9 @@ pub fn read_result(
         return Outcome::Refused(numbers::WORK_SHORT);
     }
     under::mark_under(table, count, result, work);
-    let outcome = read_under(table, count, result, numbers, work);
+    let outcome = marked::read_under(table, count, result, numbers, work);
     reader::wipe(work);
     outcome
-}
-
-// What the result reads as, of the marked terms. The marks stay.
-fn read_under(
-    table: &[u8],
-    count: u16,
-    result: Result,
-    numbers: [Word; 16],
-    work: &mut [Place],
-) -> Outcome
-    requires { ⌜ Under (now table) count result (now work) ⌝ }
-    ensures { λ r. ⌜ r ≡ readIn (readings numbers (termsIn (now (table .entry)) count)) result ⌝ ∗ ⌜ Under (now (table .entry)) count result (now (work .exit)) ⌝ }
-{
-    read_marked(table, count, numbers, work);
-    reader::outcome_held(&work[0..count as usize], result)
-}
-
-// What each marked term reads as, from the first on: it is read from lower ones, which are marked too.
-fn read_marked(table: &[u8], count: u16, numbers: [Word; 16], work: &mut [Place])
-    requires { ⌜ count ≤ length (now work) ⌝ ∗ ⌜ Closed (termsIn (now table) count) (markIn (now work)) ⌝ }
-    ensures { λ _. ⌜ ReadsMarked numbers (now (table .entry)) count (now (work .entry)) (now (work .exit)) ⌝ }
-{
-    let mut i: u16 = 0;
-    while i < count {
-        let at = i as usize;
-        if under::is_marked(work[at]) {
-            let t = records::term_at(table, i);
-            let v = keep(reader::term_reading(t, numbers, &work[0..at]));
-            work[at] = v;
-        }
-        i += 1;
-    }
-}
-
-// A reading as it is kept in a marked place.
-fn keep(v: Reading) -> Place
-    ensures { λ r. ⌜ unpackedOf r ≡ v ⌝ ∗ ⌜ markPlace ≤ r ⌝ }
-{
-    under::MARK + WORDS * (v.sort as Place) + (v.number as Place)
 }
 
 // An answer as one number: its kind, counted in words, and its number.

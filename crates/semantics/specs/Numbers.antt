@@ -70,6 +70,19 @@ leftCode = 7
 abbrev pub rightCode : ℕ
 rightCode = 8
 
+-- ---- the codes that a search for a witness knows more of than their spans say
+-- 9 count of ones
+abbrev pub onesCode : ℕ
+onesCode = 9
+
+-- 10 leading zeros
+abbrev pub zerosCode : ℕ
+zerosCode = 10
+
+-- 12 equal
+abbrev pub equalCode : ℕ
+equalCode = 12
+
 -- ---- the codes that need no words
 -- true only for false
 abbrev pub notCode : ℕ
@@ -226,6 +239,10 @@ badSpan = 17
 abbrev pub textLong : ℕ
 textLong = 18
 
+-- more than 24 free bits
+abbrev pub tooManyBits : ℕ
+tooManyBits = 19
+
 -- what no operation answers: a run that would end with what is no value
 abbrev pub noValue : ℕ
 noValue = 254
@@ -233,6 +250,10 @@ noValue = 254
 -- ---- limits
 abbrev pub inputCount : ℕ
 inputCount = 16
+
+-- the free bits of a session in which a witness is looked for
+abbrev pub bitLimit : ℕ
+bitLimit = 24
 
 -- the records of a rule
 abbrev pub recordLimit : ℕ

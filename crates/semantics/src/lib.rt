@@ -131,3 +131,15 @@ pub enum Goal {
     Aborts,
     Gives(Word),
 }
+
+// The reading that was asked for, where there is one.
+pub struct Hit {
+    pub found: bool,
+    pub numbers: [Word; 16],
+}
+
+// A hit, or a refusal where the number is not 0.
+pub struct Witness {
+    pub refusal: u8,
+    pub hit: Hit,
+}

@@ -43,6 +43,13 @@ pub const LEFT_CODE: u8 = 7;
 
 pub const RIGHT_CODE: u8 = 8;
 
+// The codes that a search for a witness knows more of than their spans say.
+pub const ONES_CODE: u8 = 9;
+
+pub const ZEROS_CODE: u8 = 10;
+
+pub const EQUAL_CODE: u8 = 12;
+
 // The codes that need no words.
 // True only for false.
 pub const NOT_CODE: u8 = 13;
@@ -138,11 +145,15 @@ pub const STORE_FULL: u8 = 16;
 pub const BAD_SPAN: u8 = 17;
 // The text is longer than the lent buffer.
 pub const TEXT_LONG: u8 = 18;
+// More than 24 free bits.
+pub const TOO_MANY_BITS: u8 = 19;
 // What no operation answers: a run that would end with what is no value.
 pub const NO_VALUE: u8 = 254;
 
 // Limits.
 pub const INPUT_COUNT: u16 = 16;
+// The free bits of a session in which a witness is looked for.
+pub const BIT_LIMIT: u16 = 24;
 // The records of a rule.
 pub const RECORD_LIMIT: u16 = 4096;
 // The terms of a table.

@@ -41,7 +41,7 @@ pub fn spans(
 }
 
 // No free word's low is above its high.
-fn spans_taken(inputs: [Input; 16], lows: [Word; 16], highs: [Word; 16]) -> bool
+pub fn spans_taken(inputs: [Input; 16], lows: [Word; 16], highs: [Word; 16]) -> bool
     ensures { λ r. ⌜ r ≡ spansTaken inputs lows highs ⌝ }
 {
     let mut i: u16 = 0;
@@ -67,7 +67,7 @@ fn span_taken(x: Input, low: Word, high: Word) -> bool
 }
 
 // One end of each input: 0 is the least truth, and 1 the greatest.
-fn ends(truth: Word, inputs: [Input; 16], given: [Word; 16]) -> [Word; 16]
+pub fn ends(truth: Word, inputs: [Input; 16], given: [Word; 16]) -> [Word; 16]
     ensures { λ r. ⌜ r ≡ endsOf truth inputs given ⌝ }
 {
     let mut found = given;

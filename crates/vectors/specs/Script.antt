@@ -1,4 +1,5 @@
--- A session as the vectors write it: an opening, then evaluations, readings, plain runs and spans; what it answers, as numbers. Assumes nothing.
+-- A session as the vectors write it: an opening, then evaluations, readings, plain runs, spans and other questions; what it answers, as numbers.
+-- Assumes nothing.
 use Prim.Native.Nat.{ℕ, zero, suc, _*_}
 use mathlib.Core.List.{List, [], _∷_, _++_}
 use lib.ListN.{take, replicate}
@@ -14,12 +15,14 @@ use Rattle.semantics.specs.Print.{Line, out, halt, refusal, numbers}
 use Rattle.forms.specs.Answers.{outcomeValues}
 use Rattle.cases.specs.Table.{answer, reading, call}
 
--- A plain run has the opening's inputs and a store of so many bytes, and spans have a list for so many reports. The last one tells all terms.
+-- A plain run has the opening's inputs and a store of so many bytes, and spans have a list for so many reports. With `ask` a crate above
+-- this one asks something else of what the evaluations so far left. The last one tells all terms.
 pub data Step : Type 0 where
   evaluate : (allowance : ℕ) → (rule : List ℕ) → Step
   read : (under : List ℕ) → Step
   run : (allowance store : ℕ) → (rule : List ℕ) → (under : List ℕ) → Step
   span : (list : ℕ) → (lows highs : List ℕ) → Step
+  ask : (question : History → List ℕ) → Step
   terms : Step
 
 -- n terms from number i on
@@ -39,6 +42,7 @@ played xs h (evaluate d bs ∷ ks) =
 played xs h (read ns ∷ ks) = reading h ns ++ played xs h ks
 played xs h (run d l bs ns ∷ ks) = outcomeValues (runPlainlyOf xs ns bs d (replicate l 1) .0) ++ played xs h ks
 played xs h (span l lows highs ∷ ks) = reportNumbers (h .session .count) (spansOf (h .session) (h .table) lows highs (replicate (reportSize * l) 9)) ++ played xs h ks
+played xs h (ask f ∷ ks) = f h ++ played xs h ks
 played xs h (terms ∷ ks) = termNumbers (h .table) 0 (h .session .count) ++ played xs h ks
 
 -- from an opening on a table of l bytes: the refusal, or the count and what follows

@@ -76,6 +76,24 @@ mod c {
             length: *mut u64,
             length_len: usize,
         ) -> u8;
+        pub fn desk_witness(
+            session: *const u8,
+            session_len: usize,
+            table: *const u8,
+            table_len: usize,
+            result: *const u8,
+            result_len: usize,
+            goal: *const u8,
+            goal_len: usize,
+            lows: *const u8,
+            lows_len: usize,
+            highs: *const u8,
+            highs_len: usize,
+            work: *mut Place,
+            work_len: usize,
+            witness: *mut u8,
+            witness_len: usize,
+        ) -> u8;
         pub fn desk_run(
             inputs: *const u8,
             inputs_len: usize,
@@ -270,6 +288,40 @@ pub fn clauses(
             text.len(),
             length.as_mut_ptr(),
             length.len(),
+        )
+    }
+}
+
+// A slice for each place of `desk_witness`.
+#[allow(clippy::too_many_arguments)]
+pub fn witness(
+    session: &[u8],
+    table: &[u8],
+    result: &[u8],
+    goal: &[u8],
+    lows: &[u8],
+    highs: &[u8],
+    work: &mut [Place],
+    witness: &mut [u8],
+) -> u8 {
+    unsafe {
+        c::desk_witness(
+            session.as_ptr(),
+            session.len(),
+            table.as_ptr(),
+            table.len(),
+            result.as_ptr(),
+            result.len(),
+            goal.as_ptr(),
+            goal.len(),
+            lows.as_ptr(),
+            lows.len(),
+            highs.as_ptr(),
+            highs.len(),
+            work.as_mut_ptr(),
+            work.len(),
+            witness.as_mut_ptr(),
+            witness.len(),
         )
     }
 }

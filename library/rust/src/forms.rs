@@ -25,5 +25,8 @@ pub const ANSWER: usize = 10;
 /// What was read, and its number, each as a word.
 pub const READING: usize = 2 * WORD;
 
+/// A mark and what is zero, in the bytes of a word, then sixteen numbers.
+pub const WITNESS: usize = WORD + NUMBERS;
+
 /// Sort, low and high, each as a number of a list.
 pub const REPORT: usize = 3;

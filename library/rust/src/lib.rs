@@ -1,12 +1,13 @@
 //! The desk for Rust: a session over a table, the rules that are evaluated in it, the readings of their results under
-//! sixteen numbers and under those of many bales at a stroke, what they can be within spans, clauses for a solver, and plain
-//! runs. A shift by the width of a word or more gives 0 wherever it is worked out, read or run. Byte forms stay inside;
-//! `exports` has the functions over them.
+//! sixteen numbers and under those of many bales at a stroke, what they can be within spans, clauses for a solver, the first
+//! numbers that bring about a reading, and plain runs. A shift by the width of a word or more gives 0 wherever it is worked out,
+//! read or run. Byte forms stay inside; `exports` has the functions over them.
 
 pub mod exports;
 pub mod forms;
 
-use forms::{Place, Word, ANSWER, ASSERTED, COUNT, INPUT, READING, REPORT, SAMPLE, SESSION, WORD};
+use forms::{Place, Word, ANSWER, ASSERTED, COUNT, INPUT};
+use forms::{READING, REPORT, SAMPLE, SESSION, WITNESS, WORD};
 
 /// The refusal of a text that is longer than the lent buffer.
 const TEXT_LONG: u8 = 18;
@@ -234,6 +235,50 @@ impl Desk {
         numbers
     }
 
+    /// The first sixteen numbers under which reading an answer reaches the goal, comparing inputs from 0 up as plain numbers, or
+    /// nothing where no numbers do; a constant input has the number 0. With more than 24 free bits (a truth is one, a word
+    /// sixteen) it is refused by 19. Where there is nothing for `Goal::Errs` of the last accepted answer, no run of the accepted
+    /// rules errs (theorem none-never-errs in `include/desk.h`).
+    pub fn witness(&self, answer: Answer, goal: Goal) -> Result<Option<[Word; SAMPLE]>, Refusal> {
+        self.first(answer, goal, &[], &[])
+    }
+
+    /// The same of numbers within spans: the least and the most that each free word can be, as `spans` takes them. A low above
+    /// its high is refused by 17. Spans do not lower the count of free bits.
+    pub fn witness_within(
+        &self,
+        answer: Answer,
+        goal: Goal,
+        lows: &[Word; 16],
+        highs: &[Word; 16],
+    ) -> Result<Option<[Word; SAMPLE]>, Refusal> {
+        self.first(answer, goal, &words(lows), &words(highs))
+    }
+
+    /// No lows and no highs are no spans.
+    fn first(
+        &self,
+        answer: Answer,
+        goal: Goal,
+        lows: &[u8],
+        highs: &[u8],
+    ) -> Result<Option<[Word; SAMPLE]>, Refusal> {
+        let mut work = vec![0; usize::from(self.count())];
+        let mut form = [0; WITNESS];
+        accepted(exports::witness(
+            &self.session,
+            &self.table,
+            &result_bytes(answer),
+            &goal_bytes(goal),
+            lows,
+            highs,
+            &mut work,
+            &mut form,
+        ))?;
+        let numbers = std::array::from_fn(|i| word(&form[WORD * (i + 1)..]));
+        Ok((form[0] == 1).then_some(numbers))
+    }
+
     /// How many terms the table holds.
     pub fn count(&self) -> u16 {
         two(&self.session, COUNT)
@@ -342,10 +387,15 @@ fn two(bytes: &[u8], at: usize) -> u16 {
     u16::from_le_bytes([bytes[at], bytes[at + 1]])
 }
 
-fn reading(form: [u8; READING]) -> Reading {
+/// The word that the bytes begin with.
+fn word(bytes: &[u8]) -> Word {
     let mut word = [0; WORD];
-    word.copy_from_slice(&form[WORD..]);
-    reading_of(Place::from(form[0]), Word::from_le_bytes(word))
+    word.copy_from_slice(&bytes[..WORD]);
+    Word::from_le_bytes(word)
+}
+
+fn reading(form: [u8; READING]) -> Reading {
+    reading_of(Place::from(form[0]), word(&form[WORD..]))
 }
 
 /// A sample's answer has the kind above the bits of a word; no kind is 0, which is left to a refused sample.

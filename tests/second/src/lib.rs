@@ -18,6 +18,7 @@ mod spans;
 mod state;
 mod terms;
 pub mod text;
+mod witness;
 mod words;
 
 pub use clauses::{clauses, Goal, NoText};
@@ -30,6 +31,7 @@ pub use run::run;
 pub use samples::read_all;
 pub use session::{Input, Session};
 pub use spans::{spans, Report, Span, Spans, Truths};
+pub use witness::witness;
 pub use words::{Word, WIDTH, WORD_BYTES};
 
 /// What reading or a plain run answers. A procedure is its record number.

@@ -29,7 +29,7 @@ pub fn result_of(answer: Answer) -> Option<ResultOf> {
 }
 
 /// A procedure reads as its record number.
-type Reading = Value<u16>;
+pub type Reading = Value<u16>;
 
 pub fn read(
     session: &Session,
@@ -61,7 +61,17 @@ fn attempt(
 
 /// What a result reads as, under numbers that 13 lets pass; 14 has let the result pass.
 pub fn read_result(terms: &[Term], numbers: &[Word; 16], result: &ResultOf) -> Outcome {
-    let readings = read_terms(terms, numbers);
+    read_result_in(&mut Vec::new(), terms, numbers, result)
+}
+
+/// The same with a list that is lent for the terms' readings: many readings in turn can share one.
+pub fn read_result_in(
+    readings: &mut Vec<Reading>,
+    terms: &[Term],
+    numbers: &[Word; 16],
+    result: &ResultOf,
+) -> Outcome {
+    read_terms(readings, terms, numbers);
     let at = |number: u16| readings[usize::from(number)];
     match (at(result.s).holds(), at(result.t).holds()) {
         (false, true) => Outcome::Abort,
@@ -77,7 +87,8 @@ pub fn term_readings(
     numbers: &[Word; 16],
 ) -> Result<Vec<Outcome>, u8> {
     let fitted = fit(session, table)?;
-    let readings = read_terms(fitted.factory.terms(), numbers);
+    let mut readings = Vec::new();
+    read_terms(&mut readings, fitted.factory.terms(), numbers);
     Ok(readings.into_iter().map(outcome).collect())
 }
 
@@ -98,13 +109,13 @@ fn outcome(reading: Reading) -> Outcome {
 }
 
 /// Every term names only lower ones, so one pass from below reads them all.
-fn read_terms(terms: &[Term], numbers: &[Word; 16]) -> Vec<Reading> {
-    let mut readings = Vec::with_capacity(terms.len());
+fn read_terms(readings: &mut Vec<Reading>, terms: &[Term], numbers: &[Word; 16]) {
+    readings.clear();
+    readings.reserve_exact(terms.len());
     for &term in terms {
-        let reading = read_term(term, &readings, numbers);
+        let reading = read_term(term, readings, numbers);
         readings.push(reading);
     }
-    readings
 }
 
 fn read_term(term: Term, readings: &[Reading], numbers: &[Word; 16]) -> Reading {

@@ -56,7 +56,7 @@ pub fn spans(
 }
 
 /// Test 17: no free word's low exceeds its high.
-fn test_spans(inputs: &[Input; 16], spans: &Spans) -> Result<(), u8> {
+pub fn test_spans(inputs: &[Input; 16], spans: &Spans) -> Result<(), u8> {
     let exceeds = |at: usize| inputs[at].kind == 3 && spans.lows[at] > spans.highs[at];
     if (0..16).any(exceeds) {
         Err(17)

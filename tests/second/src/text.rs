@@ -28,12 +28,34 @@ pub fn spans(fields: &[&str]) -> Option<Spans> {
     })
 }
 
+/// The texts for a solver say what some reading does, the cases of witnesses what it reads as.
 pub fn goal(fields: &[&str]) -> Option<Goal> {
     Some(match fields {
-        ["errs"] => Goal::Errs,
-        ["aborts"] => Goal::Aborts,
-        ["gives", word] => Goal::Gives(word.parse().ok()?),
+        ["errs" | "error"] => Goal::Errs,
+        ["aborts" | "abort"] => Goal::Aborts,
+        ["gives" | "word", word] => Goal::Gives(word.parse().ok()?),
         _ => return None,
+    })
+}
+
+/// What a case asks a witness of.
+pub struct Asked {
+    pub work: usize,
+    pub goal: Goal,
+    pub spans: Option<Spans>,
+}
+
+/// The work list's length and the goal, then `in` and spans where they are given.
+pub fn asked(fields: &[&str]) -> Option<Asked> {
+    let (work, rest) = fields.split_first()?;
+    let (wanted, given) = match rest.iter().position(|&field| field == "in") {
+        Some(at) => (&rest[..at], Some(spans(&rest[at + 1..])?)),
+        None => (rest, None),
+    };
+    Some(Asked {
+        work: work.parse().ok()?,
+        goal: goal(wanted)?,
+        spans: given,
     })
 }
 

@@ -3,7 +3,7 @@
 
 use crate::made::Made;
 use second::dice::{datum, record, Dice};
-use second::{records, Record, ResultOf, Session};
+use second::{records, Input, Record, ResultOf, Session};
 use std::collections::HashSet;
 
 pub struct AnyTable {
@@ -29,8 +29,8 @@ impl AnyTable {
 }
 
 /// A table that has so many terms and no room for more, as if two rules had been accepted.
-pub fn any_table(dice: &mut Dice, terms: usize) -> AnyTable {
-    let mut any = AnyTable::open(dice, terms);
+pub fn any_table(dice: &mut Dice, inputs: &[Input; 16], terms: usize) -> AnyTable {
+    let mut any = AnyTable::open(inputs, terms);
     let mut there: HashSet<[u8; 8]> = records(&any.table).map(Record::to_bytes).collect();
     while usize::from(any.session.count) < terms {
         let term = any.term(dice);
@@ -42,8 +42,8 @@ pub fn any_table(dice: &mut Dice, terms: usize) -> AnyTable {
 }
 
 impl AnyTable {
-    fn open(dice: &mut Dice, terms: usize) -> AnyTable {
-        let Made { session, table } = Made::open(&dice.inputs(), terms);
+    fn open(inputs: &[Input; 16], terms: usize) -> AnyTable {
+        let Made { session, table } = Made::open(inputs, terms);
         let mut any = AnyTable {
             session: Session {
                 count: 0,

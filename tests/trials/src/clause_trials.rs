@@ -108,7 +108,7 @@ fn goal(dice: &mut Dice, table: &[u8]) -> Goal {
 /// A text of each result, and of others near the terms.
 fn sessions(tally: &mut Tally) {
     let mut dice = Dice(0xc1a5);
-    random_sessions(&mut dice, 600, |dice, session, table, result| {
+    let each = |dice: &mut Dice, session: &Session, table: &[u8], result: &ResultOf| {
         for result in &results_near(dice, session, result) {
             let asked = Asked {
                 session,
@@ -123,7 +123,8 @@ fn sessions(tally: &mut Tally) {
                 _ => {}
             }
         }
-    });
+    };
+    random_sessions(&mut dice, 600, Dice::inputs, each);
 }
 
 /// Tables of any terms: operators on what is no word, and shifts by constants and by what is none.
@@ -131,7 +132,8 @@ fn random_tables(tally: &mut Tally) {
     let mut dice = Dice(0xc1a6);
     for _ in 0..250 {
         let terms = dice.pick(&[40, 60, 120]);
-        let any = any_table(&mut dice, terms);
+        let inputs = dice.inputs();
+        let any = any_table(&mut dice, &inputs, terms);
         let refusal = compare_fits(tally, &any.session, &any.table);
         tally.same("a table of any terms", refusal, 0);
         for _ in 0..2 {

@@ -4,7 +4,7 @@
 use crate::desk;
 use crate::made::FALSE;
 use crate::tally::Tally;
-use second::{clauses, evaluate, open, read, read_all, run, spans};
+use second::{clauses, evaluate, open, read, read_all, run, spans, witness};
 use second::{Answer, Goal, Input, NoText, Outcome, ResultOf, Session, Spans, Word};
 
 /// Tests 4 to 7: a run on good inputs with an allowance of 0 goes no further than 8.
@@ -248,4 +248,41 @@ pub fn compare_clauses(
         buffer: ours,
         length: length[0],
     }
+}
+
+/// With a work list of so many places; a refused call leaves the witness's. Gives the desk's numbers too, where it found some.
+pub fn compare_witness(
+    tally: &mut Tally,
+    session: &Session,
+    table: &[u8],
+    result: &ResultOf,
+    goal: Goal,
+    given: Option<&Spans>,
+    work: usize,
+) -> (u8, Option<[Word; desk::SAMPLE]>) {
+    let mut places = vec![0x5a5a_5a5a; work];
+    let mut ours = desk::UNFOUND;
+    let [lows, highs] = desk::spans_bytes(given);
+    let refusal = desk::witness(
+        &desk::session_bytes(session),
+        table,
+        &desk::result_bytes(result),
+        &desk::goal_bytes(goal),
+        &lows,
+        &highs,
+        &mut places,
+        &mut ours,
+    );
+    let (expected, theirs) = match witness(session, table, result, goal, given, work) {
+        Ok(found) => {
+            tally.saw("found", u8::from(found.is_some()));
+            (0, desk::witness_bytes(found))
+        }
+        Err(refusal) => (refusal, desk::UNFOUND),
+    };
+    tally.saw("witness", expected);
+    tally.same("witness", (refusal, ours), (expected, theirs));
+    let zero = places.iter().all(|&n| n == 0);
+    tally.same("witness's work is zero", zero, true);
+    (refusal, desk::witness_numbers(&ours))
 }

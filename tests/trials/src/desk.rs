@@ -1,12 +1,12 @@
 //! The desk's exports, with the byte forms of what they take and give.
 
 pub use ::desk::exports::{
-    clauses, evaluate, fits, open, read, read_all, rule_refusal, rule_turns, run, spans,
+    clauses, evaluate, fits, open, read, read_all, rule_refusal, rule_turns, run, spans, witness,
 };
 pub use ::desk::forms::{
-    Place, ANSWER, HALTED, INPUT, INPUTS, READING, REPORT, SAMPLE, SESSION, WORD,
+    Place, ANSWER, HALTED, INPUT, INPUTS, NUMBERS, READING, REPORT, SAMPLE, SESSION, WITNESS, WORD,
 };
-use second::{Answer, Goal, Input, Outcome, Report, ResultOf, Session, Word};
+use second::{Answer, Goal, Input, Outcome, Report, ResultOf, Session, Spans, Word};
 
 pub fn inputs_bytes(inputs: &[Input; 16]) -> Vec<u8> {
     let mut bytes = Vec::new();
@@ -129,6 +129,31 @@ pub fn reading_answer(reading: &[u8; READING]) -> Place {
 /// The kind times two to the power of a word's bits, and the number.
 fn joined(kind: u8, number: Word) -> Place {
     Place::from(kind) << Word::BITS | Place::from(number)
+}
+
+/// The lows and the highs; both are empty where there are no spans.
+pub fn spans_bytes(spans: Option<&Spans>) -> [Vec<u8>; 2] {
+    let ends = spans.map(|spans| [spans.lows, spans.highs]);
+    ends.map_or_else(Default::default, |ends| ends.map(|n| numbers_bytes(&n)))
+}
+
+/// What a refused call leaves at a witness's place: these bytes, as they were.
+pub const UNFOUND: [u8; WITNESS] = [0xa5; WITNESS];
+
+/// A mark, what is zero, and the numbers; all of it is zero where no reading is found.
+pub fn witness_bytes(found: Option<[Word; SAMPLE]>) -> [u8; WITNESS] {
+    let mut bytes = [0; WITNESS];
+    if let Some(numbers) = found {
+        bytes[0] = 1;
+        bytes[WORD..].copy_from_slice(&numbers_bytes(&numbers));
+    }
+    bytes
+}
+
+/// The numbers of a witness's bytes.
+pub fn witness_numbers(bytes: &[u8; WITNESS]) -> Option<[Word; SAMPLE]> {
+    let number = |at: usize| word(&bytes[WORD * (at + 1)..WORD * (at + 2)]);
+    (bytes[0] == 1).then(|| std::array::from_fn(number))
 }
 
 /// A list of reports before a call: no report has such numbers, and no two places the same.

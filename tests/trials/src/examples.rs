@@ -8,7 +8,7 @@ use std::process::Command;
 /// An example's name in either language, and its lines.
 type Example = (&'static str, &'static str);
 
-const EXAMPLES: [Example; 4] = [
+const EXAMPLES: [Example; 5] = [
     (
         "printed_case",
         include_str!("../../../library/printed_case.txt"),
@@ -16,6 +16,7 @@ const EXAMPLES: [Example; 4] = [
     ("spans", include_str!("../../../library/spans.txt")),
     ("samples", include_str!("../../../library/samples.txt")),
     ("clauses", include_str!("../../../library/clauses.txt")),
+    ("witness", include_str!("../../../library/witness.txt")),
 ];
 
 pub fn all(tally: &mut Tally) {

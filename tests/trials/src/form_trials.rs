@@ -1,8 +1,8 @@
 //! Byte forms of wrong lengths, or with a mark or a zero that is another number: each is refused by its number, in the
 //! operation's order of tests.
 
-use crate::desk::{self, Place, HALTED, INPUT, READING, SAMPLE};
-use crate::desk::{UNANSWERED, UNREAD, UNTOLD, WORD};
+use crate::desk::{self, Place, HALTED, INPUT, NUMBERS, READING, SAMPLE};
+use crate::desk::{UNANSWERED, UNFOUND, UNREAD, UNTOLD, WORD};
 use crate::session_trials::small_session;
 use crate::tally::Tally;
 use second::dice::{record, rule};
@@ -25,6 +25,7 @@ pub fn all(tally: &mut Tally) {
     lengths(tally, &good, &good);
     lengths(tally, &good, &good.spoiled());
     inputs_lengths(tally, &good);
+    spans_lengths(tally, &good);
     for other in 1..=255 {
         zeros(tally, &good, other);
         marks(tally, &good, other);
@@ -32,6 +33,7 @@ pub fn all(tally: &mut Tally) {
     session_bytes(tally, &good);
     goals(tally, &good);
     orders(tally, &good);
+    witness_orders(tally, &good);
 }
 
 /// Everything that the exports are lent.
@@ -55,6 +57,7 @@ struct Lent {
     goal: Vec<u8>,
     text: Vec<u8>,
     length: Vec<u64>,
+    witness: Vec<u8>,
 }
 
 /// The number that an export answers, and whether a refused call left what it was lent as it was, but for a work list and
@@ -66,7 +69,7 @@ fn answers(tally: &mut Tally, what: &str, told: Told, number: u8) {
     tally.same(what, told, (number, true));
 }
 
-const CALLS: [(&str, Call); 8] = [
+const CALLS: [(&str, Call); 9] = [
     ("open", Lent::open),
     ("fits", Lent::fits),
     ("evaluate", Lent::evaluate),
@@ -75,6 +78,7 @@ const CALLS: [(&str, Call); 8] = [
     ("run", Lent::run),
     ("spans", Lent::spans),
     ("clauses", Lent::clauses),
+    ("witness", Lent::witness),
 ];
 
 impl Lent {
@@ -106,6 +110,7 @@ impl Lent {
             goal: desk::goal_bytes(GOAL).to_vec(),
             text: desk::unwritten(text.expect("a text").len()),
             length: vec![UNTOLD],
+            witness: UNFOUND.to_vec(),
         }
     }
 
@@ -241,6 +246,24 @@ impl Lent {
             number
         })
     }
+
+    fn witness(&self) -> Told {
+        self.call(|lent| {
+            let number = desk::witness(
+                &lent.session,
+                &lent.table,
+                &lent.result,
+                &lent.goal,
+                &lent.lows,
+                &lent.highs,
+                &mut lent.work,
+                &mut lent.witness,
+            );
+            assert!(lent.work.iter().all(|&n| n == 0));
+            lent.work.clone_from(&self.work);
+            number
+        })
+    }
 }
 
 /// Every length from 0 to 99 but one.
@@ -257,7 +280,7 @@ fn lengths(tally: &mut Tally, good: &Lent, lent: &Lent) {
     };
     for length in other_lengths(good.session.len()) {
         let other = lent.but(|lent| lent.session.resize(length, 0));
-        let calls: [Call; 7] = [
+        let calls: [Call; 8] = [
             Lent::open,
             Lent::fits,
             Lent::evaluate,
@@ -265,6 +288,7 @@ fn lengths(tally: &mut Tally, good: &Lent, lent: &Lent) {
             Lent::read_all,
             Lent::spans,
             Lent::clauses,
+            Lent::witness,
         ];
         wrong(tally, "session's length", other, &calls);
     }
@@ -278,7 +302,7 @@ fn lengths(tally: &mut Tally, good: &Lent, lent: &Lent) {
     }
     for length in other_lengths(good.result.len()) {
         let other = lent.but(|lent| lent.result.resize(length, 0));
-        let calls: [Call; 3] = [Lent::read, Lent::read_all, Lent::clauses];
+        let calls: [Call; 4] = [Lent::read, Lent::read_all, Lent::clauses, Lent::witness];
         wrong(tally, "result's length", other, &calls);
     }
     for length in other_lengths(good.reading.len()) {
@@ -287,17 +311,26 @@ fn lengths(tally: &mut Tally, good: &Lent, lent: &Lent) {
     }
     for length in other_lengths(good.lows.len()) {
         let other = lent.but(|lent| lent.lows.resize(length, 0));
-        wrong(tally, "lows' length", other, &[Lent::spans]);
+        wrong(tally, "lows' length", other, &[Lent::spans, Lent::witness]);
         let other = lent.but(|lent| lent.highs.resize(length, 0));
-        wrong(tally, "highs' length", other, &[Lent::spans]);
+        wrong(tally, "highs' length", other, &[Lent::spans, Lent::witness]);
     }
     for length in other_lengths(good.goal.len()) {
         let other = lent.but(|lent| lent.goal.resize(length, 0));
-        wrong(tally, "goal's length", other, &[Lent::clauses]);
+        wrong(
+            tally,
+            "goal's length",
+            other,
+            &[Lent::clauses, Lent::witness],
+        );
     }
     for length in other_lengths(good.length.len()) {
         let other = lent.but(|lent| lent.length.resize(length, UNTOLD));
         wrong(tally, "length's length", other, &[Lent::clauses]);
+    }
+    for length in other_lengths(good.witness.len()) {
+        let other = lent.but(|lent| lent.witness.resize(length, 0xa5));
+        wrong(tally, "witness's length", other, &[Lent::witness]);
     }
 }
 
@@ -307,6 +340,32 @@ fn inputs_lengths(tally: &mut Tally, good: &Lent) {
         let other = good.but(|lent| lent.inputs.resize(length, 0));
         answers(tally, "inputs' length", other.open(), 2);
         answers(tally, "inputs' length", other.run(), 2);
+    }
+}
+
+/// Of a witness no lows and no highs are no spans; both of another length than theirs, or only one of them empty, are none that
+/// are taken.
+fn spans_lengths(tally: &mut Tally, good: &Lent) {
+    let spoiled = good.spoiled();
+    for length in 0..100 {
+        for (lows, highs) in [
+            (length, length),
+            (0, length),
+            (length, 0),
+            (NUMBERS, length),
+        ] {
+            let other = |lent: &Lent| {
+                lent.but(|lent| {
+                    lent.lows.resize(lows, 0);
+                    lent.highs.resize(highs, 0);
+                })
+            };
+            let spans = lows == highs && [0, NUMBERS].contains(&lows);
+            let number = |taken| if spans { taken } else { WRONG_LENGTH };
+            answers(tally, "spans' lengths", other(good).witness(), number(0));
+            let first = other(&spoiled).witness();
+            answers(tally, "spans' lengths first", first, number(3));
+        }
     }
 }
 
@@ -324,6 +383,7 @@ fn zeros(tally: &mut Tally, good: &Lent, other: u8) {
     answers(tally, "result's zero", result.read(), 14);
     answers(tally, "result's zero", result.read_all(), 14);
     answers(tally, "result's zero", result.clauses(), 14);
+    answers(tally, "result's zero", result.witness(), 14);
 }
 
 fn marks(tally: &mut Tally, good: &Lent, other: u8) {
@@ -334,11 +394,13 @@ fn marks(tally: &mut Tally, good: &Lent, other: u8) {
         answers(tally, "result's mark", result.read(), 0);
         answers(tally, "result's mark", result.read_all(), 0);
         answers(tally, "result's mark", result.clauses(), 0);
+        answers(tally, "result's mark", result.witness(), 0);
     } else {
         misfit(tally, "session's mark", &session);
         answers(tally, "result's mark", result.read(), 14);
         answers(tally, "result's mark", result.read_all(), 14);
         answers(tally, "result's mark", result.clauses(), 14);
+        answers(tally, "result's mark", result.witness(), 14);
     }
 }
 
@@ -349,15 +411,18 @@ fn misfit(tally: &mut Tally, what: &str, session: &Lent) {
     answers(tally, what, session.read_all(), 3);
     answers(tally, what, session.spans(), 3);
     answers(tally, what, session.clauses(), 3);
+    answers(tally, what, session.witness(), 3);
 }
 
-/// Every other value of every byte of a session: reports, readings of samples and texts are refused where test 3 refuses it.
+/// Every other value of every byte of a session: reports, readings of samples, texts and witnesses are refused where test 3
+/// refuses it.
 fn session_bytes(tally: &mut Tally, good: &Lent) {
     for at in 0..good.session.len() {
         for other in 0..=255 {
             let lent = good.but(|lent| lent.session[at] = other);
             answers(tally, "a session's byte", lent.spans(), lent.fits().0);
             answers(tally, "a session's byte", lent.read_all(), lent.fits().0);
+            answers(tally, "a session's byte", lent.witness(), lent.fits().0);
             // a text takes longer, and a session that fits has one
             let none = lent.but(|lent| lent.text.clear());
             let expected = if lent.fits().0 == 0 { 18 } else { 3 };
@@ -383,8 +448,10 @@ fn goals(tally: &mut Tally, good: &Lent) {
                 lent.text.clear();
             });
             answers(tally, "a goal", lent.clauses(), form(18));
+            answers(tally, "a goal", lent.witness(), form(0));
             let lent = spoiled.but(|lent| lent.goal = goal);
             answers(tally, "a goal first", lent.clauses(), form(3));
+            answers(tally, "a goal first", lent.witness(), form(3));
         }
     }
 }
@@ -434,6 +501,24 @@ fn orders(tally: &mut Tally, good: &Lent) {
     answers(tally, "clauses: 3 of the table", unfitting.clauses(), 3);
     answers(tally, "clauses: then 14", fitting.clauses(), 14);
     answers(tally, "clauses: then 18", formed.clauses(), 18);
+}
+
+/// The same of a witness, whose 19 no session here has: `limits/witness` has sessions of more free bits.
+fn witness_orders(tally: &mut Tally, good: &Lent) {
+    let all = good.spoiled();
+    let no_goal = all.but(|lent| lent.goal = NO_GOAL.to_vec());
+    answers(tally, "witness: 255 first", no_goal.witness(), WRONG_LENGTH);
+    answers(tally, "witness: then 3", all.witness(), 3);
+    let sized = all.but(|lent| lent.table.clone_from(&good.table));
+    answers(tally, "witness: 3 of the session", sized.witness(), 3);
+    let fitting = sized.but(|lent| lent.session.clone_from(&good.session));
+    let unfitting = fitting.but(|lent| lent.table[0] = 9);
+    answers(tally, "witness: 3 of the table", unfitting.witness(), 3);
+    answers(tally, "witness: then 14", fitting.witness(), 14);
+    let formed = fitting.but(|lent| lent.result.clone_from(&good.result));
+    answers(tally, "witness: then 17", formed.witness(), 17);
+    let spanned = formed.but(|lent| lent.lows.clone_from(&good.lows));
+    answers(tally, "witness: then 15", spanned.witness(), 15);
 }
 
 /// Each of the three reasons for 15 is there until its list is a good one; what is left then, a sample that 13 refuses, stops

@@ -2,7 +2,7 @@
 //! library's examples with those wanted. `faults` tries whether faults in the second evaluator are noticed by the trials at
 //! the limits; `limits` with the name of a group makes those of the group alone, and with `first` too ends at the first
 //! difference. `figures` takes times, counts terms and tries an evaluation in 1 MiB of stack; `bench`, `scopes`, `small`,
-//! `speed`, `terms`, `spans`, `samples`, `clauses` and `stack` with a number of KiB are its parts.
+//! `speed`, `terms`, `spans`, `samples`, `clauses`, `witness` and `stack` with a number of KiB are its parts.
 
 mod any_table;
 mod bench;
@@ -37,10 +37,15 @@ mod span_speed;
 mod span_trials;
 mod speed;
 mod stack;
+mod stood_on;
 mod tally;
 mod tree;
 mod trials;
 mod vectors;
+mod witness_boxes;
+mod witness_cases;
+mod witness_speed;
+mod witness_trials;
 
 use tally::Tally;
 
@@ -56,6 +61,7 @@ fn main() {
             span_speed::run();
             sample_speed::run();
             clause_speed::run();
+            witness_speed::run();
             return stack::run(1_024);
         }
         ["bench"] => return bench::run(),
@@ -66,6 +72,7 @@ fn main() {
         ["spans"] => return span_speed::run(),
         ["samples"] => return sample_speed::run(),
         ["clauses"] => return clause_speed::run(),
+        ["witness"] => return witness_speed::run(),
         ["stack", kibibytes] => return stack::run(kibibytes.parse().expect("a number")),
         ["faults"] => return faults::run(),
         ["limits", group] => return limits::group(group, Tally::default()),

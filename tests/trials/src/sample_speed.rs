@@ -5,6 +5,7 @@ use crate::desk::{self, Place};
 use crate::grown::{grown, Grown};
 use crate::rules::guarded_update;
 use crate::speed::{in_turn_inputs, least_of, nested_inputs, nested_updates, TABLE};
+use crate::stood_on::stood_on;
 use second::dice::Dice;
 use second::{read_all, records, Input, Record, ResultOf, Session, Word};
 use std::hint::black_box;
@@ -109,20 +110,10 @@ impl Case {
         usize::from(self.session.count)
     }
 
-    /// How many terms S, T and the value stand on, these three included. A term names only lower ones.
+    /// How many terms S, T and the value stand on, these three included.
     fn stood_on(&self) -> usize {
         let terms: Vec<Record> = records(&self.table).take(self.count()).collect();
-        let mut stood_on = vec![false; terms.len()];
-        for number in [self.result.s, self.result.t, self.result.value] {
-            stood_on[usize::from(number)] = true;
-        }
-        for (number, &term) in terms.iter().enumerate().rev() {
-            if stood_on[number] {
-                for operand in operands(term) {
-                    stood_on[usize::from(operand)] = true;
-                }
-            }
-        }
+        let stood_on = stood_on(&terms, &self.result);
         stood_on.into_iter().filter(|&on| on).count()
     }
 
@@ -162,16 +153,6 @@ impl Case {
         } = self;
         let answers = read_all(session, table, result, numbers, self.count(), SAMPLES);
         assert!(black_box(answers).is_ok());
-    }
-}
-
-/// The terms whose readings a term's own is made of. A procedure reads as its record.
-fn operands(term: Record) -> Vec<u16> {
-    match term.kind {
-        5 if matches!(term.op, 9 | 10 | 14 | 15 | 32 | 35) => vec![term.a],
-        5 => vec![term.a, term.b],
-        6 => vec![term.a, term.b, term.c],
-        _ => vec![],
     }
 }
 

@@ -91,7 +91,7 @@ fn some_samples(dice: &mut Dice, session: &Session) -> Vec<Word> {
 /// Each result read under some samples, and others near the terms.
 fn sessions(tally: &mut Tally) {
     let mut dice = Dice(0xba1e);
-    random_sessions(&mut dice, 2_500, |dice, session, table, result| {
+    let each = |dice: &mut Dice, session: &Session, table: &[u8], result: &ResultOf| {
         for result in &results_near(dice, session, result) {
             let read = Read {
                 session,
@@ -104,7 +104,8 @@ fn sessions(tally: &mut Tally) {
                 lists(tally, dice, &read, &numbers);
             }
         }
-    });
+    };
+    random_sessions(&mut dice, 2_500, Dice::inputs, each);
 }
 
 /// Tables of any terms: what S, T and the value stand on is any part of them.
@@ -112,7 +113,8 @@ fn random_tables(tally: &mut Tally) {
     let mut dice = Dice(0xba4e);
     for _ in 0..2_000 {
         let terms = dice.pick(&[40, 60, 120, 300]);
-        let any = any_table(&mut dice, terms);
+        let inputs = dice.inputs();
+        let any = any_table(&mut dice, &inputs, terms);
         let refusal = compare_fits(tally, &any.session, &any.table);
         tally.same("a table of any terms", refusal, 0);
         for _ in 0..6 {

@@ -69,10 +69,11 @@ pub fn readings(
 pub fn random_sessions(
     dice: &mut Dice,
     sessions: usize,
+    some_inputs: fn(&mut Dice) -> [Input; 16],
     mut each: impl FnMut(&mut Dice, &Session, &[u8], &ResultOf),
 ) {
     for _ in 0..sessions {
-        let inputs = dice.inputs();
+        let inputs = some_inputs(dice);
         let size = dice.pick(&[272, 512, 4_096, 16_384]);
         let mut table = vec![0; size];
         let mut session = open(&inputs, &mut table).expect("a good opening");

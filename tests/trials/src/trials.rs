@@ -2,6 +2,7 @@
 
 use crate::compare::compare_open;
 use crate::tally::Tally;
+use crate::witness_trials;
 use crate::{clause_trials, evaluations, form_trials, limits, long_rules, rule_trials};
 use crate::{run_trials, sample_trials, session_trials, solver_texts, span_trials, vectors};
 use second::dice::Dice;
@@ -19,6 +20,7 @@ pub fn all() -> Tally {
     span_trials::all(&mut tally);
     sample_trials::all(&mut tally);
     clause_trials::all(&mut tally);
+    witness_trials::all(&mut tally);
     vectors::all(&mut tally);
     solver_texts::all(&mut tally);
     limits::all(&mut tally);
@@ -31,7 +33,7 @@ pub fn all() -> Tally {
 }
 
 /// Every answer that some trial must have had.
-const ANSWERS: [(&str, &[u8]); 11] = [
+const ANSWERS: [(&str, &[u8]); 13] = [
     ("open", &[0, 1, 2]),
     ("rule", &[0, 4, 5, 6, 7]),
     ("fits", &[0, 3]),
@@ -46,6 +48,8 @@ const ANSWERS: [(&str, &[u8]); 11] = [
     ("spans", &[0, 3, 15, 17]),
     ("clauses", &[0, 3, 14, 18]),
     ("goal", &[0, 1]),
+    ("witness", &[0, 3, 14, 15, 17, 19]),
+    ("found", &[0, 1]),
 ];
 
 fn openings(tally: &mut Tally) {

@@ -1,18 +1,19 @@
 //! The vectors' cases through the desk. What they expect is checked on the second evaluator, by its program `vectors`.
 
-use crate::compare::{compare_open, compare_read, compare_run, compare_spans};
+use crate::compare::{compare_open, compare_read, compare_run, compare_spans, compare_witness};
 use crate::desk::{word, INPUT, INPUTS, REPORT, WORD};
 use crate::evaluations::Pair;
 use crate::tally::Tally;
-use second::text::{hex, input, sixteen, spans};
+use second::text::{asked, hex, input, sixteen, spans};
 use second::{result_of, Answer, Input, ResultOf};
 
 const SESSIONS: &str = include_str!("../../vectors/sessions.txt");
 const SPANS: &str = include_str!("../../vectors/spans.txt");
+const WITNESSES: &str = include_str!("../../vectors/witness.txt");
 const PRINTS: &str = include_str!("../../vectors/print.txt");
 
 pub fn all(tally: &mut Tally) {
-    let cases = [SESSIONS, SPANS].into_iter().flat_map(cases_of);
+    let cases = [SESSIONS, SPANS, WITNESSES].into_iter().flat_map(cases_of);
     for case in cases {
         let replayed = session(tally, case);
         tally.same("a session is understood", replayed, Some(()));
@@ -74,6 +75,14 @@ fn session(tally: &mut Tally, case: &str) -> Option<()> {
                 } = pair.as_ref()?;
                 let numbers = REPORT * list.parse::<usize>().ok()?;
                 compare_spans(tally, session, theirs, &spans(ends)?, numbers);
+            }
+            "witness" => {
+                let asked = asked(fields)?;
+                let Pair {
+                    session, theirs, ..
+                } = pair.as_ref()?;
+                let (goal, given) = (asked.goal, asked.spans.as_ref());
+                compare_witness(tally, session, theirs, &last?, goal, given, asked.work);
             }
             _ => continue,
         }

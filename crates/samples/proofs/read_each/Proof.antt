@@ -5,7 +5,8 @@ use mathlib.Core.Path.{_≡_, refl}
 use Prim.Native.Nat.{_-_, _≤_}
 use lib.ListN.{length}
 use native.Mathlib.Omega.{arith}
-use Rattle.samples.specs.Marked.{Under, Answers}
+use Rattle.marked.specs.Marked.{Under}
+use Rattle.samples.specs.Answers.{Answers}
 use Rattle.samples.proofs.Lists.{answers-start, answers-next, answers-end}
 use Rattle.samples.proofs.read_each.Statement.{statement}
 use Rattle.samples.proofs.read_each.Tie as tie

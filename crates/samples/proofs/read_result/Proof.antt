@@ -1,7 +1,8 @@
 -- `samples::read_result` meets its contract. Assumes nothing.
 use borrow.Author.Needs.{needs}
 use Rattle.reader.proofs.Held.{zero-as}
-use Rattle.samples.proofs.Marked.{under-by, result-short, result-read}
+use Rattle.marked.proofs.Marked.{under-by}
+use Rattle.samples.proofs.Ways.{result-short, result-read}
 use Rattle.samples.proofs.read_result.Statement.{statement}
 use Rattle.samples.proofs.read_result.Tie as tie
 

@@ -1,6 +1,6 @@
 -- `samples::read_sample` meets its contract. Assumes nothing.
 use borrow.Author.Needs.{needs}
-use Rattle.samples.proofs.Marked.{sample-refused, sample-read}
+use Rattle.samples.proofs.Ways.{sample-refused, sample-read}
 use Rattle.samples.proofs.read_sample.Statement.{statement}
 use Rattle.samples.proofs.read_sample.Tie as tie
 

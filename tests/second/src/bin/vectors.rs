@@ -1,10 +1,8 @@
 //! Checks every answer of the vector files.
 
-use second::text::{self, hex, input, sixteen};
-use second::{
-    evaluate, open, print, read, records, run, spans, Answer, Input, Outcome, Report, ResultOf,
-    Session,
-};
+use second::text::{self, asked, hex, input, sixteen};
+use second::{evaluate, open, print, read, records, run, spans, witness};
+use second::{Answer, Input, Outcome, Report, ResultOf, Session};
 use std::path::{Path, PathBuf};
 use std::process::ExitCode;
 
@@ -33,12 +31,13 @@ fn check(folder: &Path) -> Result<bool, String> {
     let sessions = cases(&folder.join("sessions.txt"))?;
     let prints = cases(&folder.join("print.txt"))?;
     let spans = cases(&folder.join("spans.txt"))?;
+    let witnesses = cases(&folder.join("witness.txt"))?;
     let mut wrong = Vec::new();
     for case in &sessions {
         wrong.extend(difference(case, replay_session(case)));
     }
-    for case in &spans {
-        wrong.extend(difference(case, replay_spans(case)));
+    for case in spans.iter().chain(&witnesses) {
+        wrong.extend(difference(case, replay_answers(case)));
     }
     for case in &prints {
         wrong.extend(difference(case, replay_print(case)));
@@ -47,10 +46,11 @@ fn check(folder: &Path) -> Result<bool, String> {
         println!("{text}");
     }
     println!(
-        "vectors: {} sessions, {} prints, {} sessions with spans, {} wrong",
+        "vectors: {} sessions, {} prints, {} sessions with spans, {} with witnesses, {} wrong",
         sessions.len(),
         prints.len(),
         spans.len(),
+        witnesses.len(),
         wrong.len()
     );
     Ok(wrong.is_empty())
@@ -125,8 +125,8 @@ fn replay_session(case: &Case) -> Option<Vec<String>> {
     Some(lines)
 }
 
-/// The same of a case with spans, which ends without the terms.
-fn replay_spans(case: &Case) -> Option<Vec<String>> {
+/// The same of a case with spans or witnesses, which ends without the terms.
+fn replay_answers(case: &Case) -> Option<Vec<String>> {
     Replay::new().answers(case)
 }
 
@@ -153,6 +153,7 @@ impl Replay {
                 "read" => vec![self.read(&fields)?],
                 "run" => vec![self.run(&fields)?],
                 "spans" => self.spans(&fields)?,
+                "witness" => vec![self.witness(&fields)?],
                 _ => continue,
             };
             lines.push(line.clone());
@@ -225,6 +226,18 @@ impl Replay {
         Some(match answer {
             Ok(reports) => (0..).zip(reports).map(reported).collect(),
             Err(refusal) => vec![format!("refused {refusal}")],
+        })
+    }
+
+    fn witness(&self, fields: &[&str]) -> Option<String> {
+        let asked = asked(fields)?;
+        let (session, last) = (self.session?, self.last?);
+        let spans = asked.spans.as_ref();
+        let answer = witness(&session, &self.table, &last, asked.goal, spans, asked.work);
+        Some(match answer {
+            Ok(Some(numbers)) => format!("found {}", numbers.map(|n| n.to_string()).join(" ")),
+            Ok(None) => "none".to_string(),
+            Err(refusal) => format!("refused {refusal}"),
         })
     }
 

@@ -20,6 +20,7 @@ mod shifts;
 mod spans;
 mod stores;
 mod terms;
+mod witness;
 
 use crate::compare::compare_fits;
 use crate::evaluations::Pair;
@@ -32,7 +33,7 @@ use second::{Input, ResultOf};
 
 type Group = (&'static str, fn(&mut Tally));
 
-const GROUPS: [Group; 18] = [
+const GROUPS: [Group; 19] = [
     ("openings", openings::all),
     ("rule_records", rule_records::all),
     ("fitting", fitting::all),
@@ -48,6 +49,7 @@ const GROUPS: [Group; 18] = [
     ("samples", samples::all),
     ("spans", spans::all),
     ("clauses", clauses::all),
+    ("witness", witness::all),
     ("stores", stores::all),
     ("orders", orders::all),
     ("prints", prints::all),
@@ -101,7 +103,12 @@ const GOOD: ResultOf = ResultOf {
 fn tables_about_three() -> [(Made, Option<u8>); 5] {
     let mut inputs = [FALSE; 16];
     inputs[15] = FREE_TRUTH;
-    let good = Made::open(&inputs, 40);
+    tables_over(&inputs)
+}
+
+/// The same over any inputs, of which the last is free.
+fn tables_over(inputs: &[Input; 16]) -> [(Made, Option<u8>); 5] {
+    let good = Made::open(inputs, 40);
     [
         (good.clone(), None),
         (good.over(319), Some(3)),

@@ -1,0 +1,2 @@
+mod Hits
+mod Answers

@@ -1,0 +1,5 @@
+pub mod Counts
+pub mod Worked
+pub mod Codes
+pub mod Covered
+pub mod Sound

@@ -1,0 +1,4 @@
+pub mod Standing
+pub mod Readings
+pub mod Theorems
+pub mod Runs

@@ -1,0 +1,1 @@
+// Cases of the witness vectors, computed by the definitions. No code.
