@@ -1,5 +1,7 @@
 // What an accepted rule leaves: the answer, and the session with one rule more. The caller has tested that the session may
 // accept one more (test 9).
+#![tactic(auto)]
+
 ghost use Rattle.std.specs.Prelude.{List, ◌≡◌, ℕ, ◌<◌};
 ghost use Rattle.semantics.specs.Numbers.{rule_limit};
 ghost use Rattle.semantics.specs.Answers.{answer_of};

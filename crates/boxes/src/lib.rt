@@ -1,6 +1,8 @@
 // A box of readings, from a low to a high for each input: the range of each term under a result, kept in two lists, and whether
 // a goal may be reached in the box. A marked place of the work list holds a range's sort and low as it holds a reading; the
 // other list has the highs.
+#![tactic(auto)]
+
 ghost use Rattle.std.specs.Prelude.{◌≡◌, false, ◌≤◌, length};
 ghost use Rattle.ranges.specs.Ranges.{term_range};
 ghost use Rattle.ranges.specs.MayReach.{may_reach};

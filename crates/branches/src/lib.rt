@@ -1,6 +1,8 @@
 // Merging guarded results over a state: the step of a pass over them, which carries on, by value, what it has; two branches in
 // a pass for every S, one for every T and one for the values, from the right by choice; and the halt test after the passes. No
 // public function has a `requires`.
+#![tactic(auto)]
+
 ghost use Rattle.std.specs.Prelude.{◌≡◌, [], ◌∷◌};
 ghost use Rattle.semantics.specs.Steps.{each};
 ghost use Rattle.semantics.specs.Merge.{branch_of, value_step_of, merge_of};
@@ -31,7 +33,7 @@ pub const VALUE_PASS: u8 = 2;
 
 // What a pass carries on: the state, and the value of the branches met, if one gave a value, with a table that then has
 // `count` terms; or a refusal, where it is not 0.
-#[derive(Drop)]
+#[derive(Clone, Copy)]
 pub struct Carried {
     pub refusal: u8,
     pub count: u16,
@@ -40,7 +42,7 @@ pub struct Carried {
 }
 
 // A value, if a branch gave one, with a table that then has `count` terms; or a refusal, where it is not 0.
-#[derive(Drop)]
+#[derive(Clone, Copy)]
 pub struct Valued {
     pub refusal: u8,
     pub count: u16,
@@ -48,7 +50,7 @@ pub struct Valued {
 }
 
 // A result, with a table that then has `count` terms; or a refusal, where it is not 0.
-#[derive(Drop)]
+#[derive(Clone, Copy)]
 pub struct Merged {
     pub refusal: u8,
     pub count: u16,

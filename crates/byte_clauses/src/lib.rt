@@ -1,5 +1,7 @@
 // Clauses over byte forms: session, result and goal are forms, the text goes into a lent buffer, and its length into a list of
 // one number. No public function has a `requires`.
+#![tactic(auto)]
+
 ghost use Rattle.std.specs.Prelude.{◌≡◌};
 ghost use Rattle.byte_clauses.specs.Clauses.{clauses_unformed, desk_clauses};
 

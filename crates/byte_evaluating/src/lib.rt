@@ -1,4 +1,6 @@
 // Evaluating over byte forms. No public function has a `requires`.
+#![tactic(auto)]
+
 ghost use Rattle.std.specs.Prelude.{◌≡◌};
 ghost use Rattle.byte_evaluating.specs.Evaluate.{desk_evaluate};
 

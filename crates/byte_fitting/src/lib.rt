@@ -1,4 +1,6 @@
 // Test 3 over byte forms. No public function has a `requires`.
+#![tactic(auto)]
+
 ghost use Rattle.std.specs.Prelude.{◌≡◌};
 ghost use Rattle.byte_fitting.specs.Fits.{desk_fits};
 

@@ -1,4 +1,6 @@
 // Opening over byte forms (the crate `forms` lists them). No public function has a `requires`.
+#![tactic(auto)]
+
 ghost use Rattle.std.specs.Prelude.{◌≡◌};
 ghost use Rattle.byte_opening.specs.Open.{desk_open};
 

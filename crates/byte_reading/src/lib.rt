@@ -1,4 +1,6 @@
 // Reading over byte forms. The work list is zero on every return. No public function has a `requires`.
+#![tactic(auto)]
+
 ghost use Rattle.std.specs.Prelude.{◌≡◌};
 ghost use Rattle.byte_reading.specs.Read.{read_unformed, desk_read};
 

@@ -1,4 +1,6 @@
 // The plain run over byte forms. The store is zero on every return. No public function has a `requires`.
+#![tactic(auto)]
+
 ghost use Rattle.std.specs.Prelude.{◌≡◌};
 ghost use Rattle.byte_running.specs.Run.{run_unformed, desk_run};
 

@@ -1,5 +1,7 @@
 // Samples over byte forms: the session and the result are forms, the numbers and the answers are lists. The work list is zero
 // on every return, and the answers are written on success alone. No public function has a `requires`.
+#![tactic(auto)]
+
 ghost use Rattle.std.specs.Prelude.{◌≡◌};
 ghost use Rattle.byte_samples.specs.Samples.{samples_unformed, desk_read_all};
 

@@ -1,4 +1,6 @@
 // Spans over byte forms. The list of reports is written on success alone. No public function has a `requires`.
+#![tactic(auto)]
+
 ghost use Rattle.std.specs.Prelude.{◌≡◌};
 ghost use Rattle.byte_spans.specs.Spans.{spans_unformed, desk_spans};
 

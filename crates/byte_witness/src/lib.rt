@@ -1,5 +1,7 @@
 // Witnesses over byte forms. Spans are given as two forms of numbers, or not at all, as two empty ones. The work list is zero on every
 // return. No public function has a `requires`.
+#![tactic(auto)]
+
 ghost use Rattle.std.specs.Prelude.{◌≡◌};
 ghost use Rattle.std.proofs.lemmas.List.Edits.{sets};
 ghost use Rattle.words.specs.Words.{word_bytes};

@@ -1,5 +1,7 @@
 // What the pass for the tests 6 and 7 asks of one record, and marks for it: its children, whether they stand in order, whether
 // it is a child once, and whether its places are in scope. No public function has a `requires`.
+#![tactic(auto)]
+
 ghost use Rattle.std.specs.Prelude.{◌≡◌, [], ◌∷◌, ◌+◌, min, ltb, take};
 ghost use Rattle.notation.specs.Notation.{every};
 ghost use Rattle.semantics.specs.Rules.{parts_of, inside_of, once_of, places_of};
@@ -11,14 +13,14 @@ use semantics::numbers::{
 };
 
 // The record at which a child stands, and how many bindings it has more than its parent.
-#[derive(Drop)]
+#[derive(Clone, Copy)]
 pub struct Child {
     pub at: u16,
     pub more: u16,
 }
 
 // The children of a record: the first `count` of two. What is past the count is never read.
-#[derive(Drop)]
+#[derive(Clone, Copy)]
 pub struct Children {
     pub count: u8,
     pub first: Child,

@@ -153,6 +153,24 @@ module _ {W : Type 0} (h : ℕ → W) where
       go false x y b q = refl
 
 -- ---- the last gates
+and_bits : (x y : Bool) → bit_of (value_of and3 true x y) ≡ min (bit_of x) (bit_of y)
+and_bits true true = refl
+and_bits true false = refl
+and_bits false true = refl
+and_bits false false = refl
+
+or_bits : (x y : Bool) → bit_of (value_of and_or true x y) ≡ max (bit_of x) (bit_of y)
+or_bits true true = refl
+or_bits true false = refl
+or_bits false true = refl
+or_bits false false = refl
+
+xor_bits : (x y : Bool) → bit_of (value_of and_xor true x y) ≡ differ (bit_of x) (bit_of y)
+xor_bits true true = refl
+xor_bits true false = refl
+xor_bits false true = refl
+xor_bits false false = refl
+
 module _ {W : Type 0} (h o : ℕ → W) (g : Literal W) (σ : W → Bool) where
   -- any operation on numbers that goes digit by digit
   pairs_is : (f : Function) (op : ℕ → ℕ → ℕ) (dg : ℕ → ℕ → ℕ) → op 0 0 ≡ 0 → ((a b : ℕ) → op a b ≡ op (a / 2) (b / 2) * 2 + dg (a % 2) (b % 2))
@@ -182,13 +200,13 @@ module _ {W : Type 0} (h o : ℕ → W) (g : Literal W) (σ : W → Bool) where
 
   module _ (s : ℕ) (xs ys : List (Literal W)) (n : ℕ) (t : literal_true σ g ≡ true) (e : length xs ≡ n) (i : length ys ≡ n) where
     pub and_is : Holds σ (pairs h o g and3 s xs ys) → number σ (literals o s n) ≡ bit_and (number σ xs) (number σ ys)
-    and_is H = pairs_is and3 bit_and min refl and_step (λ x. elim x [ true ↦ λ y. elim y [ true ↦ refl | false ↦ refl ] | false ↦ λ y. elim y [ true ↦ refl | false ↦ refl ] ]) s xs ys n t e i H
+    and_is H = pairs_is and3 bit_and min refl and_step and_bits s xs ys n t e i H
 
     pub or_is : Holds σ (pairs h o g and_or s xs ys) → number σ (literals o s n) ≡ bit_or (number σ xs) (number σ ys)
-    or_is H = pairs_is and_or bit_or max refl or_step (λ x. elim x [ true ↦ λ y. elim y [ true ↦ refl | false ↦ refl ] | false ↦ λ y. elim y [ true ↦ refl | false ↦ refl ] ]) s xs ys n t e i H
+    or_is H = pairs_is and_or bit_or max refl or_step or_bits s xs ys n t e i H
 
     pub xor_is : Holds σ (pairs h o g and_xor s xs ys) → number σ (literals o s n) ≡ bit_xor (number σ xs) (number σ ys)
-    xor_is H = pairs_is and_xor bit_xor differ refl xor_step (λ x. elim x [ true ↦ λ y. elim y [ true ↦ refl | false ↦ refl ] | false ↦ λ y. elim y [ true ↦ refl | false ↦ refl ] ]) s xs ys n t e i H
+    xor_is H = pairs_is and_xor bit_xor differ refl xor_step xor_bits s xs ys n t e i H
 
   bit_mask : (a r : Bool) (n : ℕ) → bit_of (a && r) + 2 * (bit_of a * n) ≡ bit_of a * (bit_of r + 2 * n)
   bit_mask true r n = omega arith

@@ -1,6 +1,8 @@
 // Text into a lent buffer, byte after byte: each function puts its text from a place on and answers the place after it. A byte is
 // stored where the buffer has its place, so that the same functions measure a text, over a buffer that is too short for it, and
 // write it. The place stops at a limit that no text reaches. No public function has a `requires`.
+#![tactic(auto)]
+
 ghost use Rattle.std.specs.Prelude.{[], ◌∷◌, ◌++◌, ◌<◌};
 ghost use Rattle.text.specs.Text.{digit, decimal_of};
 ghost use Rattle.cursor.specs.Sink.{Writes};

@@ -1,1 +1,2 @@
 // The demands as theorems about the operations' own definitions. Proofs only, no code.
+#![tactic(auto)]

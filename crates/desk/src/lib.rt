@@ -1,4 +1,4 @@
-// The desk's library: the proved operations for callers in other languages, over numbers and byte slices. Each answer
+// The desk's operations as callers in other languages have them, over numbers and byte slices; `desk_c` exports them. Each answer
 // is 0 or the number of a refusal, but for `desk_rule_turns`, which counts. Numbers of two bytes have the low one first; so
 // have words, which take two.
 //   inputs    64 bytes: 16 times a kind, a zero and a word
@@ -18,6 +18,8 @@
 // in a form (a pad byte that is not zero, a mark over 1), by the operation's own number in its order of tests: inputs by
 // 2, a session by 3, a result by 14. A refusal leaves what is lent as it was, but for the work list and the store, which
 // are zero on every return. No public function has a `requires`.
+#![tactic(auto)]
+
 ghost use Rattle.std.specs.Prelude.{◌≡◌, ◌≤◌};
 ghost use Rattle.semantics.specs.Records.{records_in};
 ghost use Rattle.semantics.specs.Rules.{rule_refusal_of};
@@ -36,40 +38,35 @@ use reader::Place;
 use words::Word;
 
 // Opens a session over a table and writes it.
-#[unsafe(no_mangle)]
-pub extern "C" fn desk_open(inputs: &[u8], table: &mut [u8], session: &mut [u8]) -> u8
+pub fn desk_open(inputs: &[u8], table: &mut [u8], session: &mut [u8]) -> u8
     ensures { (result, table.new, session.new) ≡ desk_open inputs.now table.old session.old }
 {
     byte_opening::open(inputs, table, session)
 }
 
 // The first of the tests 4 to 7 that refuses a rule.
-#[unsafe(no_mangle)]
-pub extern "C" fn desk_rule_refusal(rule: &[u8]) -> u8
+pub fn desk_rule_refusal(rule: &[u8]) -> u8
     ensures { result ≡ rule_refusal_of rule.now }
 {
     rules::refusal(rule)
 }
 
 // How many turns the pass over the tree and the places of a rule takes (the tests 6 and 7): at most one for each record.
-#[unsafe(no_mangle)]
-pub extern "C" fn desk_rule_turns(rule: &[u8]) -> u16
+pub fn desk_rule_turns(rule: &[u8]) -> u16
     ensures { (result ≡ rule_turns_of rule.now) × (result ≤ records_in rule.now) }
 {
     rules::turns(rule)
 }
 
 // Test 3: 0 where a session and a table fit, else 3.
-#[unsafe(no_mangle)]
-pub extern "C" fn desk_fits(session: &[u8], table: &[u8]) -> u8
+pub fn desk_fits(session: &[u8], table: &[u8]) -> u8
     ensures { result ≡ desk_fits session.now table.now }
 {
     byte_fitting::fits(session, table)
 }
 
 // Evaluates a rule in a session over a table, and advances both.
-#[unsafe(no_mangle)]
-pub extern "C" fn desk_evaluate(
+pub fn desk_evaluate(
     session: &mut [u8],
     table: &mut [u8],
     rule: &[u8],
@@ -82,8 +79,7 @@ pub extern "C" fn desk_evaluate(
 }
 
 // Reads a result under sixteen numbers.
-#[unsafe(no_mangle)]
-pub extern "C" fn desk_read(
+pub fn desk_read(
     session: &[u8],
     table: &[u8],
     numbers: &[u8],
@@ -97,8 +93,7 @@ pub extern "C" fn desk_read(
 }
 
 // Runs a rule plainly under sixteen numbers.
-#[unsafe(no_mangle)]
-pub extern "C" fn desk_run(
+pub fn desk_run(
     inputs: &[u8],
     numbers: &[u8],
     rule: &[u8],
@@ -114,8 +109,7 @@ pub extern "C" fn desk_run(
 // Reports on each term, with the free words within their spans. Where the session was kept from its opening and the report
 // of its T can only be true (sort 1, low 1), no head that stays within its span brings about an error: neither does
 // reading the last accepted result under such numbers, nor running the accepted rules (theorem no-reading-errs).
-#[unsafe(no_mangle)]
-pub extern "C" fn desk_spans(
+pub fn desk_spans(
     session: &[u8],
     table: &[u8],
     lows: &[u8],
@@ -128,8 +122,7 @@ pub extern "C" fn desk_spans(
 }
 
 // Reads a result under many samples, sixteen numbers each: the answers are those of single readings, in the samples' order.
-#[unsafe(no_mangle)]
-pub extern "C" fn desk_read_all(
+pub fn desk_read_all(
     session: &[u8],
     table: &[u8],
     res: &[u8],
@@ -146,8 +139,7 @@ pub extern "C" fn desk_read_all(
 // reading the result reach the goal, and the input variables of what satisfies them are such numbers (theorems clauses-exact,
 // model-is-reading). Where the session was kept from its opening and the clauses for an error of its last accepted result can't
 // be satisfied, no run of the accepted rules errs (theorem unsatisfied-never-errs).
-#[unsafe(no_mangle)]
-pub extern "C" fn desk_clauses(
+pub fn desk_clauses(
     session: &[u8],
     table: &[u8],
     res: &[u8],
@@ -161,8 +153,7 @@ pub extern "C" fn desk_clauses(
 }
 
 // Looks for the first reading that reaches a goal, inside spans where they are given, and writes it.
-#[unsafe(no_mangle)]
-pub extern "C" fn desk_witness(
+pub fn desk_witness(
     session: &[u8],
     table: &[u8],
     res: &[u8],

@@ -1,4 +1,6 @@
 // A session that is lent: a rule is evaluated in it, and it is left advanced, or untouched.
+#![tactic(auto)]
+
 ghost use Rattle.std.specs.Prelude.{◌≡◌};
 ghost use Rattle.semantics.specs.Evaluate.{evaluate_of};
 

@@ -1,6 +1,8 @@
 // Evaluating an expression and applying a procedure, which call each other. The depth allowance falls with every
 // expression and is the measure of the cycle. An expression is a record's number in a lent rule; `env` is the chain
 // of bindings, `depth` what the expression's parts have, `before` the count of rules accepted before this one.
+#![tactic(auto)]
+
 ghost use Rattle.std.specs.Prelude.{◌≤◌};
 ghost use Rattle.semantics.specs.Numbers.{leaf_limit};
 ghost use Rattle.semantics.specs.Evaluation.{under_of, let_of, both_of, if_of, apply_of, targets_of, call_of, expression_of, live_of, eval_of};

@@ -1,5 +1,7 @@
 // The expressions that run no part: data, variables, procedures, operators, abort and error. Each function promises
 // what its definition gives on all arguments. None has a `requires`.
+#![tactic(auto)]
+
 ghost use Rattle.std.specs.Prelude.{◌≡◌, max};
 ghost use Rattle.semantics.specs.Records.{datum_word};
 ghost use Rattle.semantics.specs.Terms.{terms_in};
@@ -15,7 +17,7 @@ use terms::Made;
 
 // What an expression comes to, with the depth used and a table that then has `count` terms; or a refusal, where it
 // is not 0.
-#[derive(Drop)]
+#[derive(Clone, Copy)]
 pub struct Out {
     pub refusal: u8,
     pub count: u16,
@@ -25,7 +27,7 @@ pub struct Out {
 
 // An evaluation that ends in the state x with no value: halted, or refused.
 pub fn stop(refusal: u8, count: u16, x: State) -> Out
-    ensures* { λ r. ⌜ r ≡ record { refusal = refusal; count = count; used = 0; result = halt_of x } ⌝ }
+    ensures { result ≡ record { refusal = refusal; count = count; used = 0; result = halt_of x } }
 {
     Out {
         refusal: refusal,
@@ -41,7 +43,7 @@ pub fn stop(refusal: u8, count: u16, x: State) -> Out
 
 // An evaluation that ends in the state x with the value of a term that was made; or refused, where the making was.
 fn given(made: Made, x: State) -> Out
-    ensures* { λ r. ⌜ r ≡ record { refusal = made.refusal; count = made.count; used = 0; result = out_of x made.number } ⌝ }
+    ensures { result ≡ record { refusal = made.refusal; count = made.count; used = 0; result = out_of x made.number } }
 {
     Out {
         refusal: made.refusal,

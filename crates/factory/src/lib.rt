@@ -1,6 +1,8 @@
 // What a rule's operators make of terms: the truth of a value, the tests of sort, and the operators on words, worked out on
 // constants and folded where documents 01 and 02 fold. The terms are made by `makers`. Each function promises what its
 // definition gives on all arguments. None has a `requires`.
+#![tactic(auto)]
+
 ghost use Rattle.std.specs.Prelude.{◌≡◌};
 ghost use Rattle.semantics.specs.Factory.{truth_of, is_word_of, is_procedure_of, constant_of, is_zero_of, zero_absorbs_of, zero_fold_of, operator_term_of};
 ghost use Rattle.terms.specs.Gives.{Makes};

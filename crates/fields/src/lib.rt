@@ -1,5 +1,7 @@
 // The fields of a record or of a term: whether an unused one is zero, the word of a datum, and eight bytes written of them. Only
 // `write` has a `requires`: the room for a record.
+#![tactic(auto)]
+
 ghost use Rattle.std.specs.Prelude.{◌≡◌, ◌++◌, ◌≤◌, length, drop};
 ghost use Rattle.semantics.specs.Records.{record_bytes, datum_word, field_of};
 

@@ -26,6 +26,7 @@ module _ (p : List ℕ → Bool) (ls hs : List ℕ) (rest : (n : ℕ) → Says (
   from_says a h zero n l e none_below = nowhere
     where
       nowhere : (ms : List ℕ) → InBox (a ∷ ls) (h ∷ hs) ms → p ms ≡ false
+      nowhere [] i = elim i [ ]
       nowhere (m ∷ ms) (one x y z) = none_below ms m x (omega arith) z
   from_says a h (suc k) n l e none_below = go (first_of (λ ns. p (n ∷ ns)) ls hs) (rest n) (from_says a h k (suc n) (omega arith) (omega arith))
     where
@@ -48,6 +49,7 @@ module _ (p : List ℕ → Bool) (ls hs : List ℕ) (rest : (n : ℕ) → Says (
           }
         where
           first : (ms : List ℕ) → InBox (a ∷ ls) (h ∷ hs) ms → Before ms (n ∷ ns) → p ms ≡ false
+          first [] x7 _ = elim x7 [ ]
           first (m ∷ ms) (one x y z) (here q) = none_below ms m x q z
           first (m ∷ ms) (one x y z) (later q) = found.least ms z q
 
@@ -61,6 +63,7 @@ nested_says p [] hs e = go (p []) refl
   where
     nowhere : p [] ≡ false → (ms : List ℕ) → InBox [] hs ms → p ms ≡ false
     nowhere q [] end = q
+    nowhere q (m ∷ ms) i = elim i [ ]
 
     first : (ms : List ℕ) → InBox [] hs ms → Before ms [] → p ms ≡ false
     first ms i b = absurd (not_before b refl)

@@ -1,5 +1,7 @@
 // Test 3: whether a session and a table fit. It makes the opening's terms anew to compare them; where a table has more, it
 // asks of all its terms whether they are well formed. No public function has a `requires`.
+#![tactic(auto)]
+
 ghost use Rattle.std.specs.Prelude.{true, ◌≡◌, ◌-◌, take};
 ghost use Rattle.notation.specs.Notation.{every};
 ghost use Rattle.semantics.specs.Terms.{terms_in, well_formed};
@@ -103,7 +105,7 @@ fn opening_fits(table: &[u8], fresh: &[u8], n: u16, session: Session) -> bool
 }
 
 // An opening on a table of its own, of as many records as one can need: its terms, and input 0's binding.
-#[derive(Drop)]
+#[derive(Clone, Copy)]
 struct Fresh {
     count: u16,
     environment: u16,
@@ -123,7 +125,7 @@ fn fresh_opening(inputs: [Input; 16]) -> Fresh
 }
 
 // Whether a session and a table fit, and where a rule starts if they do: at input 0's binding.
-#[derive(Drop)]
+#[derive(Clone, Copy)]
 pub struct Start {
     pub fits: bool,
     pub environment: u16,

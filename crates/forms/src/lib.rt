@@ -1,5 +1,7 @@
 // The byte forms, read from a slice and written to one. What stands past a slice's end reads as 0 and is not written,
 // so that no function has a `requires`.
+#![tactic(auto)]
+
 ghost use Rattle.std.specs.Prelude.{◌≡◌, [], ◌∷◌, ◌+◌, ◌*◌, length, set};
 ghost use Rattle.std.proofs.lemmas.List.Edits.{sets};
 ghost use Rattle.operators.specs.Operators.{bit_of};

@@ -1,5 +1,7 @@
 // Not, and, or and implies over terms, folded where documents 01 and 02 fold. Each function promises what its definition gives
 // on all arguments. None has a `requires`.
+#![tactic(auto)]
+
 ghost use Rattle.std.specs.Prelude.{◌≡◌};
 ghost use Rattle.semantics.specs.Factory.{is_not_of, not_of, and_of, or_of, implies_of};
 ghost use Rattle.terms.specs.Gives.{Makes};

@@ -1,5 +1,7 @@
 // The gates of the operators' codes as one constant table of numbers, and what each code has of them. Each function equals what
 // the definitions give, on all arguments; none has a `requires`.
+#![tactic(auto)]
+
 mod constants;
 
 ghost use Rattle.std.specs.Prelude.{◌≡◌, map, ◌<◌, length, get_or};

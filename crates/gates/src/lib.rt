@@ -1,6 +1,8 @@
 // The clauses of a gate as text. A gate over a term's wires is one number (crate `gate_tables`); its clauses' literals are slots of
 // a constant list, and each is worked out from the gate's number and the places of the terms that it looks at. No function has a
 // `requires`.
+#![tactic(auto)]
+
 ghost use Rattle.std.specs.Prelude.{◌≡◌, [], ◌∷◌, ◌<◌, ◌^◌};
 ghost use Rattle.text.specs.Text.{digit, line_feed};
 ghost use Rattle.cursor.specs.Sink.{Writes};
@@ -11,7 +13,7 @@ use semantics::numbers;
 use words::WIDTH;
 
 // What a term's wires stand for: the variable of its first helper, its own number, and those of the terms that it names.
-#[derive(Drop)]
+#[derive(Clone, Copy)]
 pub struct Places {
     pub helpers: u32,
     pub own: u16,

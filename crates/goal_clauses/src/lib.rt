@@ -1,4 +1,6 @@
 // A goal's clauses as text, and how many there are. No function has a `requires`.
+#![tactic(auto)]
+
 ghost use Rattle.std.specs.Prelude.{◌≡◌, [], ◌∷◌, ◌*◌, ◌<◌, ◌≤◌, length};
 ghost use Rattle.cursor.specs.Sink.{Writes};
 ghost use Rattle.semantics.specs.declared.Goal.TheVariants.{Errs, Aborts, Gives};

@@ -1,4 +1,6 @@
 // The byte form of a goal, which is that of the reading that it asks for. No function has a `requires`.
+#![tactic(auto)]
+
 ghost use Rattle.std.specs.Prelude.{◌≡◌};
 ghost use Rattle.goal_forms.specs.Goals.{goal_formed, goal_in};
 

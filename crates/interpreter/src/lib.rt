@@ -3,6 +3,8 @@
 // begins at place n, and chain 0 is empty, so a chain is never above the count of places taken. Reads past
 // the end give 0 and a place names lower chains only: no bytes of a rule or a store are unsafe to run. The
 // tests of rule, inputs and allowance come before, elsewhere. No public function has a `requires`.
+#![tactic(auto)]
+
 ghost use Rattle.std.specs.Prelude.{◌≡◌, ◌+◌, ◌*◌, ◌≤◌, length, replicate};
 ghost use Rattle.semantics.specs.Numbers.{procedure_term, input_count};
 ghost use Rattle.semantics.specs.Records.{datum_word};
@@ -22,7 +24,7 @@ use words::Word;
 
 // A value as a place holds it: its sort is a truth's, a word's or a procedure's (0: no value). A truth lies in the
 // first field and a word in both; a procedure's record lies in the first, and the chain of its bindings in the second.
-#[derive(Drop)]
+#[derive(Clone, Copy)]
 pub struct Held {
     pub sort: u8,
     pub first: u16,
@@ -30,7 +32,7 @@ pub struct Held {
 }
 
 // How a run of an expression ended, the value if there is one, and the places taken then.
-#[derive(Drop)]
+#[derive(Clone, Copy)]
 pub struct Ran {
     pub how: u8,
     pub value: Held,

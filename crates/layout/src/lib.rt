@@ -1,5 +1,7 @@
 // The layout of a term, kind by kind, over the terms that stand below it: what test 3 asks of each term by itself. The public
 // function has no `requires`.
+#![tactic(auto)]
+
 ghost use Rattle.std.specs.Prelude.{◌&&◌, ◌≡◌, eqb};
 ghost use Rattle.semantics.specs.Terms.{word_laid, terms_in, names_truth, names_choice, names_binding, operands_laid_out, laid_out};
 ghost use Rattle.layout.specs.Layout.{only_a, choice_laid, procedure_laid, next_laid, binding_laid, words_laid};

@@ -1,5 +1,7 @@
 // The lines that the printing program writes, in a lent buffer: a refusal's, or the first line by how the evaluation ended
 // and a line for each new term.
+#![tactic(auto)]
+
 ghost use Rattle.std.specs.Prelude.{◌+◌, ◌*◌, ◌-◌, ◌≤◌, length};
 ghost use Rattle.semantics.specs.Print.{refusal, term_line, term_lines, answer_lines};
 ghost use Rattle.text.specs.Appends.{Appends, Writes};

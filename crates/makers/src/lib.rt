@@ -1,5 +1,7 @@
 // The makers of terms: one of each kind, a choice folded where documents 01 and 02 fold it. All other steps that make a term
 // are built on these. Each function promises what its definition gives on all arguments. None has a `requires`.
+#![tactic(auto)]
+
 ghost use Rattle.semantics.specs.Factory.{make_truth_of, make_word_of, make_free_of, make_procedure_of, make_binding_of, choice_of, make_operator_of, make_plain_of};
 ghost use Rattle.terms.specs.Gives.{Makes};
 

@@ -14,7 +14,7 @@ use Rattle.words.specs.Words.{word_limit}
 use Rattle.semantics.specs.declared.Term.{Term}
 use Rattle.semantics.specs.declared.Result.{Result}
 use Rattle.semantics.specs.declared.Reading.{Reading}
-use Rattle.semantics.specs.Terms.{term_at, terms_in, at}
+use Rattle.semantics.specs.Terms.{term_at, terms_in}
 use Rattle.semantics.specs.Fold.{FromLower, fold_at}
 use Rattle.semantics.specs.Reading.{reading_of, nothing, term_reading, readings, read_in}
 use Rattle.semantics.specs.Under.{under_of, ReadFrom, Closed}

@@ -1,5 +1,7 @@
 // What a result reads as, of the terms under it alone: they are marked in a work list, and the pass over them reads each from
 // lower ones, which are marked too. The marks stay, so that the same list does for the next reading.
+#![tactic(auto)]
+
 ghost use Rattle.std.specs.Prelude.{◌≡◌, ◌≤◌, length};
 ghost use Rattle.semantics.specs.Terms.{terms_in};
 ghost use Rattle.semantics.specs.Reading.{readings, read_in};

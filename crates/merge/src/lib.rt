@@ -1,5 +1,7 @@
 // Merging guarded results over a state: a pass for every S, one for every T, and one for the values, from the right by
 // choice. A pass walks a lent list of branches. No public function has a `requires`.
+#![tactic(auto)]
+
 ghost use Rattle.std.specs.Prelude.{◌≡◌, ◌≤◌, ◌<◌, take, replicate};
 ghost use Rattle.semantics.specs.Numbers.{leaf_limit};
 ghost use Rattle.semantics.specs.Merge.{merge_of};

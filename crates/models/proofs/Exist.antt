@@ -1,6 +1,6 @@
 -- There are values of the variables that meet a table's gates, with the free inputs as in any numbers: the gates stand in order, which is a
 -- test that antt computes for each operator. Assumes nothing.
-use mathlib.Core.Path.{◌≡◌, refl, sym, ◌∙◌, subst}
+use mathlib.Core.Path.{◌≡◌, refl, sym, ap, ◌∙◌, subst}
 use mathlib.Core.Bool.{Bool, true, false, ◌&&◌, ◌||◌, cond}
 use mathlib.Core.List.{List, [], ◌∷◌}
 use Prim.Native.Nat.{ℕ, zero, suc, ◌+◌, ◌-◌, ◌*◌, ◌≤◌, ◌<◌}
@@ -96,7 +96,10 @@ masks_ordered s (m ∷ ls) h l = rw (le-leb s s (omega arith), h.0) (masks_order
 
 by_amount : (ls : List (Literal Wire)) → Each Seen ls → length ls ≡ width → InOrder true (kinds true false (one_word (masks helper own (pos (helper 0)) 2 ls)))
 unfolding ordered helpers
-by_amount ls h l = rw (masks_helpers 2 ls) (masks_ordered 2 ls h (omega arith))
+by_amount ls h l =
+    let gs = kinds true false (one_word (masks helper own (pos (helper 0)) 2 ls)) in
+    let e : helpers gs ≡ 1 = ap suc (masks_helpers 2 ls) in
+    subst (λ (n : ℕ). ordered true owned n 0 0 gs ≡ true) (sym e) (masks_ordered 2 ls h (omega arith))
 
 literals_seen : (s n : ℕ) → s + n ≤ owned → Each Seen (literals wire_a s n)
 literals_seen s zero l = tt

@@ -97,3 +97,4 @@ pub every_in : {A : Type 0} (f : A → Bool) {x : A} (xs : List A) → every f x
 unfolding every if◌then◌else◌
 every_in f (x ∷ xs) h here = (pick_both (f x) (every f xs) h).0
 every_in f (y ∷ xs) h (there i) = every_in f xs (pick_both (f y) (every f xs) h).1 i
+every_in {A = A} f [] h x3 = elim x3 [ ]

@@ -1,5 +1,7 @@
 // Opening a session: the refusals 1 and 2, and the terms of the inputs, made by the same factory as
 // evaluation's. A refused table is left untouched. No public function has a `requires`.
+#![tactic(auto)]
+
 ghost use Rattle.std.specs.Prelude.{◌≡◌, ◌-◌, ◌≤◌, get_or};
 ghost use Rattle.notation.specs.Notation.{every};
 ghost use Rattle.semantics.specs.Steps.{make_of};

@@ -1,5 +1,7 @@
 // The operations that read a result and that run a rule plainly, whole: the tests in the order of document 01, then
 // the work. The work list and the store are zero on every return. No public function has a `requires`.
+#![tactic(auto)]
+
 ghost use Rattle.std.specs.Prelude.{◌≡◌, length, replicate};
 ghost use Rattle.semantics.specs.declared.Outcome.TheVariants.{Refused};
 ghost use Rattle.semantics.specs.Reading.{read_of};

@@ -1,5 +1,7 @@
 // The operators by their codes: the one constant table of operand counts and result kinds, and what the codes
 // 1 to 12 give on words. No public function has a `requires`.
+#![tactic(auto)]
+
 ghost use Rattle.std.specs.Prelude.{◌≡◌};
 ghost use Rattle.operators.specs.Operators.{row_of, operands_of, gives_truth_of, bit_of, operate_of};
 

@@ -1,5 +1,7 @@
 // What a let, an if and a call do before their parts run and, for an if, after: each function goes as far as the next
 // part and leaves it to the evaluator. None has a `requires`.
+#![tactic(auto)]
+
 ghost use Rattle.std.specs.Prelude.{◌≡◌, [], ◌∷◌, max};
 ghost use Rattle.notation.specs.Notation.{pick};
 ghost use Rattle.semantics.specs.declared.State.{State};
@@ -14,7 +16,7 @@ use states::Standing;
 
 // The test of an if: its guard and, where that is constant, the one branch that runs alone; or a refusal, where it is
 // not 0.
-#[derive(Drop)]
+#[derive(Clone, Copy)]
 pub struct Tested {
     pub refusal: u8,
     pub count: u16,
@@ -24,7 +26,7 @@ pub struct Tested {
 }
 
 // Not g, and the states that assume g and not g; or a refusal, where it is not 0.
-#[derive(Drop)]
+#[derive(Clone, Copy)]
 pub struct Forked {
     pub refusal: u8,
     pub count: u16,
@@ -34,7 +36,7 @@ pub struct Forked {
 }
 
 // A target as its body is about to run: the body's record, its bindings and its state; or a refusal, where it is not 0.
-#[derive(Drop)]
+#[derive(Clone, Copy)]
 pub struct Entered {
     pub refusal: u8,
     pub count: u16,

@@ -3,6 +3,8 @@
 // promises every byte for the whole input, of which a buffer holds the beginning. What no contract can say is what the
 // operating system hands over and takes: `main` reads until its buffer is full, the input ends or a read fails, and
 // writes until all is written or a write fails.
+#![tactic(auto)]
+
 mod inputs;
 
 ghost use Rattle.std.specs.Prelude.{◌≡◌, List, ℕ, length, take};

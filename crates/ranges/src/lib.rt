@@ -1,5 +1,7 @@
 // Ranges: what a term may read as in a box of readings, and whether a goal may be reached there. A range is a report of document
 // 02's "Two", but for what a search for a witness gains by. No function has a `requires`.
+#![tactic(auto)]
+
 ghost use Rattle.std.specs.Prelude.{◌≡◌};
 ghost use Rattle.ranges.specs.Ranges.{one_word, one_word_each, worked_out, ones_range, zeros_range, equal_range, operation_range, is_word_range, is_procedure_range, truth_range, operator_range, term_range};
 ghost use Rattle.ranges.specs.MayReach.{may_err, may_abort, may_be, may_give, may_reach};

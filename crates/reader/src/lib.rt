@@ -1,5 +1,7 @@
 // The reader of terms: what a term reads as under sixteen numbers, of what is held for lower ones in a work list, and what a
 // result reads as. No public function has a `requires`: a term that is not there reads as nothing.
+#![tactic(auto)]
+
 ghost use Rattle.std.specs.Prelude.{◌≡◌, length, replicate};
 ghost use Rattle.semantics.specs.Reading.{is_true, term_reading};
 ghost use Rattle.notation.specs.Notation.{if◌then◌else◌};

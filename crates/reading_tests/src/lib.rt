@@ -1,5 +1,7 @@
 // Whether the numbers and the result of a reading are such as can be read, the tests 13 and 14, and the number of an input. No
 // public function has a `requires`.
+#![tactic(auto)]
+
 ghost use Rattle.std.specs.Prelude.{◌≡◌, get_or};
 ghost use Rattle.semantics.specs.Terms.{terms_in};
 ghost use Rattle.semantics.specs.Reading.{numbers_taken, result_taken};

@@ -1,4 +1,6 @@
 // What an operator's term and a result read as, of readings that are given. No public function has a `requires`.
+#![tactic(auto)]
+
 ghost use Rattle.std.specs.Prelude.{◌≡◌, ◌&&◌, ◌||◌, not};
 ghost use Rattle.semantics.specs.Reading.{truth_reading, is_true, is_truth, is_word, passes as «passes-test», result_reading, operands_are_words, operation_reading, operator_reading, value_outcome, result_outcome};
 

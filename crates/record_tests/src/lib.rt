@@ -1,5 +1,7 @@
 // The tests of what is a rule that look at one thing by itself: 4 at a rule's size, 5 at each record, without the others, and 8
 // at the allowance that it is evaluated with. No public function has a `requires`.
+#![tactic(auto)]
+
 ghost use Rattle.std.specs.Prelude.{◌≡◌};
 ghost use Rattle.notation.specs.Notation.{up_to};
 ghost use Rattle.semantics.specs.Records.{record_at};

@@ -1,5 +1,7 @@
 // Records of 8 bytes in a lent byte slice, read as a rule's and as a table's. What stands past the last byte reads as 0, so
 // nothing reads past a slice whatever its length. No public function has a `requires`.
+#![tactic(auto)]
+
 ghost use Rattle.std.specs.Prelude.{◌≡◌};
 ghost use Rattle.semantics.specs.Records.{record_at};
 ghost use Rattle.semantics.specs.Terms.{term_at};

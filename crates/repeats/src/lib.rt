@@ -1,6 +1,8 @@
 // Whether a table's terms are well formed: each laid out, and none repeated. It goes once over the table, searching for
 // repeats only where a term's marks are set already. What it clears grows with the count of terms. The public function has no
 // `requires`.
+#![tactic(auto)]
+
 ghost use Rattle.std.specs.Prelude.{◌&&◌, ◌≡◌};
 ghost use Rattle.semantics.specs.Terms.{terms_in, well_formed};
 ghost use Rattle.terms.specs.Search.{find_above};

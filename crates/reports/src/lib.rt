@@ -1,6 +1,8 @@
 // Reports (document 02, "Two"): what a term may read as, of what the terms that it names may read as. A report has the
 // least and the greatest number, and a truth is 0 or 1: so a not turns the two, an and is the smaller of two truths and
 // an or the larger. No function has a `requires`.
+#![tactic(auto)]
+
 ghost use Rattle.std.specs.Prelude.{◌≡◌, ◌-◌, min, max};
 ghost use Rattle.semantics.specs.Spans.{truth_report, word_report, open_report, both_truths, all_words, only_true, only_false, are_spans, are_truths, sum_report, difference_report, less_report, not_report, and_report, or_report, other_report, operator_report, cover_of, choice_report, term_report};
 

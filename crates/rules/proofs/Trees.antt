@@ -48,7 +48,7 @@ counts_as e c = record { long = c.long; is = λ j h. c.is j h ∙ ap (min 2) (e 
 mark_counts : (n : ℕ) (f : ℕ → ℕ) (cs : List Part) (m : List ℕ) → Counts n f m → Counts n (λ j. f j + times_in j cs) (marked_of cs m)
 unfolding marked_of times_in
 mark_counts n f [] m g = counts_as (λ j. omega arith) g
-mark_counts n f (c ∷ cs) m g = counts_as (λ j. omega arith) (mark_counts n _ cs _ (bump_counts n f m c.child g))
+mark_counts n f (c ∷ cs) m g = counts_as (λ j. omega arith) (mark_counts n (λ j. f j + (if j equals c.child then 1 else 0)) cs _ (bump_counts n f m c.child g))
 
 -- before the pass, and after a record of it
 pub counts_start : (s : List ℕ) (n : ℕ) {m : List ℕ} → Cleared n m → Counts n (times_below s 0) m

@@ -1,6 +1,8 @@
 // What is a rule: the tests 4 to 7 of document 01, in one pass over the records for test 5 and one for 6 and 7, which
 // counts its turns. What a test asks of one record is in `record_tests`, with 4 and 8, and in `children`. Nothing is evaluated
 // here, and nothing is kept. No public function has a `requires`.
+#![tactic(auto)]
+
 ghost use Rattle.std.specs.Prelude.{◌≡◌, ◌&&◌, ◌<◌, ◌≤◌, set};
 ghost use Rattle.semantics.specs.Numbers.{record_limit};
 ghost use Rattle.semantics.specs.Records.{records_in};
@@ -15,7 +17,7 @@ use semantics::numbers::{BAD_PLACE, BAD_RECORD, BAD_TREE, INPUT_COUNT, RECORD_LI
 
 // What the tests 4 to 7 find of a rule: the number of the first that refuses it, 0 where none does; and how many turns the
 // pass for 6 and 7 took.
-#[derive(Drop)]
+#[derive(Clone, Copy)]
 struct Checked {
     refusal: u8,
     turns: u16,

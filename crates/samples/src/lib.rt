@@ -1,6 +1,8 @@
 // A result, read under a sample of sixteen numbers or, for document 02's "Four", under many: then the tests come in the order
 // of the document, and each sample has its answer. Either way the terms under the result are marked first, and only these are
 // read. The work list is zero on every return. No public function has a `requires`.
+#![tactic(auto)]
+
 ghost use Rattle.std.specs.Prelude.{◌≡◌, ◌+◌, ◌*◌, ◌≤◌, length, replicate};
 ghost use Rattle.words.specs.Words.{word_limit};
 ghost use Rattle.semantics.specs.Numbers.{input_count};

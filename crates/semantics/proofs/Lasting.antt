@@ -38,7 +38,7 @@ module _ (room : ℕ) (rule : List ℕ) where
       go false q = over (omega (arith, ltb-false k room q))
 
   -- what goes on with a value
-  goes_on : (o : Ended) {s : Stored} (k n : ℕ) (second : Value → ℕ) (F : Value → ℕ → Stored) (G : Value → Ended) → Lasts room o (k + n) s
+  goes_on : (o : Ended) (k n : ℕ) {s : Stored} (second : Value → ℕ) (F : Value → ℕ → Stored) (G : Value → Ended) → Lasts room o (k + n) s
       → ((v : Value) (j : ℕ) → j ≤ room → Lasts room (G v) (j + suc (second v)) (F v j)) → Lasts room (after o G) (k + let_makes n o second) (onward s F)
   unfolding onward after let_makes
   goes_on (gives v) k n second F G (lasted l) h = same_need (omega arith) (h v (k + n) l)

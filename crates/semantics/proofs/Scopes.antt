@@ -24,6 +24,7 @@ module _ (c : ℕ) where
   pub in_times : {m : ℕ} (ps : List Part) → In (part c m) ps → 1 ≤ times_in c ps
   in_times {m} (p ∷ ps) here = let e = times_here (part c m) ps refl in omega arith
   in_times (p ∷ ps) (there i) = let r = in_times ps i in let t = times_there p ps in omega arith
+  in_times {m = m} [] x' = elim x' [ ]
 
   -- the one part that it is says what it has more
   pub more_in_lem : {m : ℕ} (ps : List Part) → In (part c m) ps → times_in c ps ≤ 1 → more_in c ps ≡ m
@@ -33,6 +34,7 @@ module _ (c : ℕ) where
       let j = in_times ps i in
       let t = times_there p ps in
       rw (ne_eqb c p.child (λ e. let k = times_here p ps e in omega arith)) (more_in_lem ps i (omega arith))
+  more_in_lem {m = m} [] x'' h = elim x'' [ ]
 
   -- "Each child's number is greater than its parent's", and below the count
   pub within : (i n : ℕ) (ps : List Part) → every (inside_of i n) ps ≡ true → 1 ≤ times_in c ps → (i < c) × (c < n)

@@ -1,5 +1,7 @@
 // Evaluating a rule in a session: the refusals 3 to 9 in their order, the halted session, then the evaluation. A
 // refusal leaves session and table as they were. No public function has a `requires`.
+#![tactic(auto)]
+
 ghost use Rattle.std.specs.Prelude.{true, ◌≡◌, ◌<◌};
 ghost use Rattle.semantics.specs.Numbers.{rule_limit};
 ghost use Rattle.semantics.specs.Rules.{rule_refusal_of};

@@ -1,5 +1,7 @@
 // The bytes of a lent slice: one is read, two are a number, and all from a place on are wiped. What stands past the last byte
 // reads as 0, so nothing reads past a slice whatever its length. No public function has a `requires`.
+#![tactic(auto)]
+
 ghost use Rattle.std.specs.Prelude.{◌≡◌, ◌+◌, ◌*◌, get_or};
 ghost use Rattle.slices.specs.Wiped.{wiped};
 

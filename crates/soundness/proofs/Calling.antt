@@ -75,17 +75,17 @@ record Ored (ns : List ℕ) (rest all : Bool) (ts : List Term) (x : ℕ) : Type 
 
 module _ {l n : ℕ} {N : ℕ → Type 0} (room : N table_full) {ns : List ℕ} where
   -- the or of the targets' guards
-  or_targets : {ts us : List Term} {v : Value} {k : ℕ} {c : Bool} {ls : List Leaf} {gs : List Bool} → Step n ts us → MeansTruth ns c us k → Leaves ns ts v ls gs
+  or_targets : {ts : List Term} {v : Value} {us : List Term} {k : ℕ} {c : Bool} {ls : List Leaf} {gs : List Bool} → Step n ts us → MeansTruth ns c us k → Leaves ns ts v ls gs
       → Does l n (each or_target_of k ls) us (MeansTruth ns (c || (is_aprocedure v && some_of gs))) N
   unfolding each or_target_of
   or_targets {v = v} {c = c} z h no_leaf_lem = rw (and-false (is_aprocedure v), or-false c) (does_give _ z.fit h)
-  or_targets {v = v} {c = c} z h (leaf {g = g} {gs = gs} x r) =
+  or_targets {v = v} {us = us} {c = c} z h (leaf {g = g} {gs = gs} x r) =
       let y = leaf_step z x in
       does_then {Q = Or} (does_eq _ _
       (λ e. does_weaken z.fit (λ ws a p q. record { has = _; is = q; same = or_yes c (is_aprocedure v) g (some_of gs) (λ i. ap is_aprocedure (target_is z.fit y e i) ∙ procedure_yes _ _) })
       (or_does room z.fit h y.guard))
       (λ e. does_give _ z.fit (record { has = c; is = h; same = or_no c (is_aprocedure v) g (some_of gs) (target_none z.fit y e) })))
-      (λ ws a p q. rw (sym q.same) (or_targets (step_on z p) q.is r))
+      (λ ws a p q. rw (sym q.same) (or_targets {us = ws} (step_on z p) q.is r))
     where
       Or : List Term → ℕ → Type 0
       Or = Ored ns (is_aprocedure v && some_of gs) (c || (is_aprocedure v && (g || some_of gs)))
@@ -148,13 +148,13 @@ module _ {l n : ℕ} {ns : List ℕ} {run : Evaluator} {rn : ℕ → Running} (r
       }
 
   -- each target in turn
-  targets_does : {top ts us : List Term} {v u : Value} {arg : ℕ} {x : State} {s t s₀ t₀ : Bool} {ls : List Leaf} {gs : List Bool} (bs : List Branch) (xs : List BranchReading)
+  targets_does : {top ts : List Term} {v u : Value} {us : List Term} {arg : ℕ} {x : State} {s t s₀ t₀ : Bool} {ls : List Leaf} {gs : List Bool} (bs : List Branch) (xs : List BranchReading)
       → Step n top us → Step n ts us → StateMeans ns s t us x → MeansValue ns u us arg → (Const top → (s && t) ≡ true) → Leaves ns ts v ls gs → BranchesMean ns us (on s t (call_run rn rule v u)) bs xs
       → Does l n (each (target_of run rule arg x) bs ls) us (Branches ns (on s t (call_run rn rule v u)) (any xs || (is_aprocedure v && some_of gs))) (Spends top s₀ t₀ (call_run rn rule v u))
   unfolding each target_of
   targets_does {v = v} bs xs z y h hu nc no_leaf_lem r =
       does_give _ z.fit (record { xs = xs; branches = r; covers = sym (rw (and-false (is_aprocedure v)) (or-false (any xs))) })
-  targets_does {top} {ts} {us} {v} {u} {arg} {x} {s} {t} {s₀} {t₀} bs xs z y h hu nc (leaf {l = a} {g = g} {gs = gs} b q) r =
+  targets_does {top} {ts} {v} {u} {us} {arg} {x} {s} {t} {s₀} {t₀} bs xs z y h hu nc (leaf {l = a} {g = g} {gs = gs} b q) r =
       does_then {Q = Ran} (does_eq _ _
       (λ k. does_map _ (apply_does z h hu nc c k) (λ us o p ho. record {
         xs = _;

@@ -235,7 +235,7 @@ data Chosen (ns : List ℕ) : List BranchReading → List Term → Folded → Ty
 
 module _ {l n : ℕ} {N : ℕ → Type 0} (room : N table_full) {ns : List ℕ} where
   -- The branches stay promised of the table at the start, and what is made goes on from there: so the recursion is on that promise.
-  assumed_does : {ts us : List Term} {x : State} {s t : Bool} {o : Seen} {bs : List Branch} {xs : List BranchReading} → Step n ts us → StateMeans ns s t us x → BranchesMean ns ts o bs xs
+  assumed_does : {ts : List Term} {o : Seen} {us : List Term} {x : State} {s t : Bool} {bs : List Branch} {xs : List BranchReading} → Step n ts us → StateMeans ns s t us x → BranchesMean ns ts o bs xs
       → Does l n (each assumed_step x bs) us (StateMeans ns (s && guarded_assumed xs) t) N
   unfolding each
   assumed_does {s = s} z h no_branch_lem = rw (and-true s) (does_give _ z.fit h)
@@ -243,7 +243,7 @@ module _ {l n : ℕ} {N : ℕ → Type 0} (room : N table_full) {ns : List ℕ} 
       does_then (merge_assumed_does room z.fit h (truth_step z b.guard) (truth_step z b.state.S)) (λ us y p hy.
       rw (← and_assoc s (not x.guard || x.s) (guarded_assumed xs)) (assumed_does (step_on z p) hy r))
 
-  asserted_does : {ts us : List Term} {x : State} {s t : Bool} {o : Seen} {bs : List Branch} {xs : List BranchReading} → Step n ts us → StateMeans ns s t us x → BranchesMean ns ts o bs xs
+  asserted_does : {ts : List Term} {o : Seen} {us : List Term} {x : State} {s t : Bool} {bs : List Branch} {xs : List BranchReading} → Step n ts us → StateMeans ns s t us x → BranchesMean ns ts o bs xs
       → Does l n (each asserted_step x bs) us (StateMeans ns s (t && guarded_asserted xs)) N
   unfolding each
   asserted_does {t = t} z h no_branch_lem = rw (and-true t) (does_give _ z.fit h)

@@ -1,1 +1,2 @@
 // Cases of the span vectors, computed by the definitions. No code.
+#![tactic(auto)]

@@ -1,5 +1,7 @@
 // Spans (document 02, "Two"): of a session, its table, and a low and a high for every free word input, the report of each
 // term in a lent list. The tests come in the order of the document, then the work. No public function has a `requires`.
+#![tactic(auto)]
+
 ghost use Rattle.std.specs.Prelude.{◌≡◌, ◌+◌, ◌*◌, ◌≤◌, length};
 ghost use Rattle.semantics.specs.Spans.{report_size, end_of, ends_of, span_taken, spans_taken, spans_of};
 ghost use Rattle.spans.specs.Lists.{lower_of, Laid, Puts};

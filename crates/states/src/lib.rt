@@ -1,5 +1,7 @@
 // The state of an evaluation, by value. Assuming, asserting and merging one branch are methods that take where an
 // evaluation stands and answer where it stands next. None has a `requires`.
+#![tactic(auto)]
+
 ghost use Rattle.std.specs.Prelude.{◌≡◌};
 ghost use Rattle.semantics.specs.Terms.{terms_in};
 ghost use Rattle.semantics.specs.States.{merge_assumed_of, merge_asserted_of, assume_of, assert_of, halts_of};
@@ -9,7 +11,7 @@ use semantics::{State, numbers};
 
 // Where an evaluation stands: the state, with a table that has `count` terms; or a refusal, where it is not 0.
 // The methods go on from the state and the count: their callers have seen that nothing was refused.
-#[derive(Drop)]
+#[derive(Clone, Copy)]
 pub struct Standing {
     pub refusal: u8,
     pub count: u16,

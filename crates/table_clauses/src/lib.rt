@@ -1,4 +1,6 @@
 // The clauses of a table's terms as text, in their order, and how many there are. No function has a `requires`.
+#![tactic(auto)]
+
 ghost use Rattle.std.specs.Prelude.{map};
 ghost use Rattle.cursor.specs.Sink.{Writes};
 ghost use Rattle.semantics.specs.Terms.{terms_in};
@@ -12,7 +14,7 @@ use gates::{OWNED, Places};
 use semantics::Term;
 
 // How many helpers and clauses a table's terms have.
-#[derive(Drop)]
+#[derive(Clone, Copy)]
 pub struct Totals {
     pub helpers: u32,
     pub clauses: u32,

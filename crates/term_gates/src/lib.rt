@@ -1,5 +1,7 @@
 // The gates of a term by number, each packed as one number, and how many gates, helpers and clauses a term has. A term comes with
 // the term that its b names: a shift by a word constant has gates of its own. No function has a `requires`.
+#![tactic(auto)]
+
 ghost use Rattle.std.specs.Prelude.{◌≡◌, true, false, [], map, ◌-◌, ◌<◌, length, get_or};
 ghost use Rattle.words.specs.Words.{width};
 ghost use Rattle.circuits.specs.Gates.{clauses};

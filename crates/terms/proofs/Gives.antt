@@ -110,7 +110,7 @@ module _ (s : List ℕ) (n : ℕ) (t : Term) {f : Found} (e : f ≡ find_above (
 
     put_whole : s ≡ image_of (length s) (terms_in s n) → put s n t ≡ image_of (length (put s n t)) (terms_in (put s n t) (n + 1))
     unfolding image_of
-    put_whole q = rw (put_length s n t l, newest, image_of, terms_length s n) (ap (λ (x : List ℕ). put x n t) q)
+    put_whole q = rw (put_length s n t l, newest, terms_length s n) (ap (λ (x : List ℕ). put x n t) q)
 
     put_appends : OnlyAppends s n (put s n t) (n + 1)
     put_appends = record { long = put_length s n t l; grows = omega arith; fits = λ f. rw (put_length s n t l) (omega arith); whole = put_whole; low = put_below s n t l; high = λ k i. put_past s n t l k (omega arith) }

@@ -2,6 +2,8 @@
 // `Makes`: what it answers, read with the table at exit, is what its definition gives at entry, and only records
 // past the count are written. No public function has a `requires`: reads past the end give 0, and making tests
 // the room itself.
+#![tactic(auto)]
+
 ghost use Rattle.std.specs.Prelude.{◌≡◌, ◌-◌, ◌/◌, max, min, length};
 ghost use Rattle.semantics.specs.Terms.{word_term_of, term_word, truth_number, terms_in, at as «term-number», same_of, sort_of, known_of};
 ghost use Rattle.semantics.specs.Terms.{names_truth, names_value};
@@ -13,7 +15,7 @@ use semantics::{Found, Term, numbers};
 use words::Word;
 
 // The number of a term in a table that then has `count` terms; or a refusal, where it is not 0.
-#[derive(Drop)]
+#[derive(Clone, Copy)]
 pub struct Made {
     pub refusal: u8,
     pub count: u16,

@@ -1,5 +1,7 @@
 // Text in a lent buffer: each function puts its text at a place and answers the place after it. What they require is
 // room for it, which the caller knows: it sizes the buffer.
+#![tactic(auto)]
+
 ghost use Rattle.std.specs.Prelude.{[], ◌∷◌, ◌++◌, ◌+◌, ◌*◌, ◌<◌, ◌≤◌, length};
 ghost use Rattle.text.specs.Text.{decimal_of, numbers_text};
 ghost use Rattle.text.specs.Appends.{number_bytes, Spells, Appends};

@@ -1,5 +1,7 @@
 // The terms under a result, marked in a work list: S, T, the value, and those that they are read from. What is read of a
 // result is read of these alone. No public function has a `requires`.
+#![tactic(auto)]
+
 ghost use Rattle.std.specs.Prelude.{◌≡◌, ◌≤◌, leb, length};
 ghost use Rattle.semantics.specs.Terms.{terms_in};
 ghost use Rattle.semantics.specs.Under.{from_first, from_second, from_third, with_term, with_lower, down_from, named_by};

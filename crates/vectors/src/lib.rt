@@ -1,1 +1,2 @@
 // Cases of tests/vectors, computed by the definitions. No code.
+#![tactic(auto)]

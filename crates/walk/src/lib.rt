@@ -1,5 +1,7 @@
 // The choices that a call walks. The leaves found lie in lent numbers, six for each, so that a walk thousands of
 // choices down keeps little on the stack; `aim` hands them back by value. It has no `requires`.
+#![tactic(auto)]
+
 ghost use Rattle.std.specs.Prelude.{◌≡◌, [], ◌∷◌, ◌++◌, ◌+◌, ◌*◌, ◌%◌, ◌<◌, ◌≤◌, length, get_or};
 ghost use Rattle.semantics.specs.Numbers.{leaf_limit, term_limit, false_number, true_number};
 ghost use Rattle.semantics.specs.Steps.{each};
@@ -27,7 +29,7 @@ pub const NO_LEAF: Leaf = Leaf {
 const FOUND: usize = 6 * numbers::LEAF_LIMIT;
 
 // How many leaves are found, with a table that then has `count` terms; or a refusal, where it is not 0.
-#[derive(Drop)]
+#[derive(Clone, Copy)]
 pub struct Walked {
     pub refusal: u8,
     pub count: u16,
@@ -35,7 +37,7 @@ pub struct Walked {
 }
 
 // The leaves by value: the first `have` of the list.
-#[derive(Drop)]
+#[derive(Clone, Copy)]
 pub struct Gathered {
     pub refusal: u8,
     pub count: u16,
@@ -45,7 +47,7 @@ pub struct Gathered {
 
 // The leaves under the value of a call, the first `have` of the list, and the state once it is asserted that one is a
 // target.
-#[derive(Drop)]
+#[derive(Clone, Copy)]
 pub struct Aimed {
     pub refusal: u8,
     pub count: u16,

@@ -2,6 +2,8 @@
 // named word; or that there is none. A box of readings is halved at its first input that is not yet one value, and passed over
 // where the ranges of its terms rule the goal out. Inputs that the result does not stand on stay at their lows. No public
 // function has a `requires`.
+#![tactic(auto)]
+
 ghost use Rattle.std.specs.Prelude.{◌≡◌, true, ◌+◌, ◌≤◌, ◌<◌, length, get_or, set};
 ghost use Rattle.words.specs.Words.{word_limit, last_word};
 ghost use Rattle.semantics.specs.Numbers.{input_count, term_limit};

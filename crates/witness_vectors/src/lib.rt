@@ -1,1 +1,2 @@
 // Cases of the witness vectors, computed by the definitions. No code.
+#![tactic(auto)]

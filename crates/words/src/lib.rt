@@ -1,5 +1,7 @@
 // Words: the operators of document 01, and a word in the fields of 16 bits of a record or a term. The width stands in
 // this crate alone. No function has a `requires`.
+#![tactic(auto)]
+
 ghost use Rattle.std.specs.Prelude.{◌≡◌, ◌%◌};
 ghost use Rattle.words.specs.Words.{width, word_limit, low_of, high_of, join_of, sum_of, difference_of, product_of, and_of, or_of, xor_of, left_of, right_of, ones_of, zeros_of};
 

@@ -1,5 +1,7 @@
 // The text of document 02's request Six, written into a lent buffer: `write` is the operation, with its tests in order. The text is
 // measured first, by the functions that write it. No public function has a `requires`.
+#![tactic(auto)]
+
 ghost use Rattle.std.specs.Prelude.{◌≡◌, List, ℕ, ◌≤◌, length};
 ghost use Rattle.cursor.specs.Sink.{most_text, Writes};
 ghost use Rattle.semantics.specs.Terms.{terms_in};

@@ -1,5 +1,7 @@
 // Whether the bytes of a slice are zero from a place on: what test 3 asks of a table's tail. The public function has no
 // `requires`.
+#![tactic(auto)]
+
 ghost use Rattle.std.specs.Prelude.{◌≡◌, length, drop};
 ghost use Rattle.notation.specs.Notation.{every};
 ghost use Rattle.semantics.specs.Fits.{is_zero};

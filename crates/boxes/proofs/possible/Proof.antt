@@ -7,8 +7,8 @@ use Rattle.boxes.proofs.possible.Tie as tie
 
 returns : tie.Need-returns
 returns c =
-    let filled = c.before.before.before.before.before.before.before.before in
-    let start = filled.before.before.before.before.before.before in
+    let filled = c in
+    let start = filled in
     let marked = start.requires.0 in
     let ranged = filled.fill.ensures in
     (λ e. not_reached _ _ _ _ _ _ marked ranged (simp unary_clauses at c.goal_held.ensures) e, ranged_under _ _ _ start.args.goal _ _ marked ranged)

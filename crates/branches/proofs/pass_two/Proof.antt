@@ -8,4 +8,4 @@ pub pass_two_spec : {M : Type 1} → statement M
 pass_two_spec =
     tie.close
     (tie.spec (λ c κs. search rules) (λ c κs. search rules) (λ c. search rules)
-    (λ c. two_turns _ _ _ _ _ c.before.before.before.before.before.before.merging.ensures c.before.before.merging2.ensures))
+    (λ c. two_turns _ _ _ _ _ c.merging-first.ensures c.merging.ensures))

@@ -4,13 +4,13 @@ use Rattle.byte_opening.proofs.Answers.{open_length, open_size, open_inputs, ope
 use Rattle.byte_opening.proofs.open.Statement.{statement}
 use Rattle.byte_opening.proofs.open.Tie as tie
 
-returns_5 : tie.Need-returns-5
+returns_5 : tie.Need-returns
 returns_5 c =
-    let opened = c.before.before.before.before.before.before.before.before.before in
-    let formed = opened.before.before.before in
-    let sized = formed.before.before in
-    open_whole _ _ _ sized.before.before.if1.false sized.before.bad_table_size.ensures sized.if2.false formed.before.inputs_formed.ensures formed.if3.true opened.before.before.inputs_in.ensures
-    opened.«open».ensures c.before.before.before.before.before.if4.false c.before.before.put_session.ensures.0 c.before.before.put_session.ensures.1
+    let opened = c in
+    let formed = opened in
+    let sized = formed in
+    open_whole _ _ _ sized.if-session-ne-SESSION.false sized.bad_table_size.ensures sized.if-bad_table_size.false formed.inputs_formed.ensures formed.if-inputs_formed.true opened.inputs_in.ensures
+    opened.open-opened.ensures c.if-opened-ne0.false c.put_session.ensures.0 c.put_session.ensures.1
 
 pub open_spec : {M : Type 1} → statement M
 open_spec =

@@ -6,19 +6,19 @@ use Rattle.notation.proofs.Follow.{values}
 use Rattle.children.proofs.children_of.Statement.{statement}
 use Rattle.children.proofs.children_of.Tie as tie
 
-returns : tie.Need-returns
+returns : tie.Need-returns-in-3
 unfolding parts_of children_of
 returns c = (search values, search rules)
 
-returns_2 : tie.Need-returns-2
+returns_2 : tie.Need-returns-in-6
 unfolding parts_of children_of
 returns_2 c = (search values, search rules)
 
-returns_3 : tie.Need-returns-3
+returns_3 : tie.Need-returns-in-7
 unfolding parts_of children_of
 returns_3 c = (search values, search rules)
 
-returns_4 : tie.Need-returns-4
+returns_4 : tie.Need-returns-in_default
 unfolding parts_of children_of
 returns_4 c = (search values, search rules)
 

@@ -8,4 +8,4 @@ pub put_before_spec : {M : Type 1} → statement M
 put_before_spec =
     tie.close
     (tie.spec (λ c κs. search rules) (λ c κs. search rules) (λ c. search rules)
-    (λ c. onward c.before.before.before.before.before.before.put_number.ensures c.before.before.put.ensures))
+    (λ c. onward c.put_number-end.ensures c.put.ensures))

@@ -5,11 +5,11 @@ use Rattle.semantics.specs.Evaluation.{datum_of}
 use Rattle.expressions.proofs.datum.Statement.{statement}
 use Rattle.expressions.proofs.datum.Tie as tie
 
-returns : tie.Need-returns
+returns : tie.Need-returns-then-x-eq-WORD_DATUM
 unfolding datum_of
-returns c = rw c.given.ensures (record { gives = rw (← c.before.before.before.before.datum_word.ensures) (search steps depth 12); low = search rules })
+returns c = rw c.given.ensures (record { gives = rw (← c.datum_word.ensures) (search steps depth 12); low = search rules })
 
-returns_2 : tie.Need-returns-2
+returns_2 : tie.Need-returns
 unfolding datum_of
 returns_2 c = record { gives = search steps depth 12; low = search rules }
 

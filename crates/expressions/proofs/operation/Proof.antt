@@ -5,19 +5,19 @@ use Rattle.terms.proofs.Gives.{steps}
 use Rattle.expressions.proofs.operation.Statement.{statement}
 use Rattle.expressions.proofs.operation.Tie as tie
 
-returns : tie.Need-returns
+returns : tie.Need-returns-then-on_words-ne0
 unfolding operation_of
 returns c = rw c.stop.ensures (record { gives = search steps depth 12; low = search rules })
 
-returns_2 : tie.Need-returns-2
+returns_2 : tie.Need-returns-then-after-ne0
 unfolding operation_of
-returns_2 c = rw c.stop2.ensures (record { gives = search steps depth 12; low = search rules })
+returns_2 c = rw c.stop-then-after-ne0.ensures (record { gives = search steps depth 12; low = search rules })
 
-returns_3 : tie.Need-returns-3
+returns_3 : tie.Need-returns-then-halts
 unfolding operation_of
-returns_3 c = rw c.stop3.ensures (record { gives = search steps depth 12; low = search rules })
+returns_3 c = rw c.stop-then-halts.ensures (record { gives = search steps depth 12; low = search rules })
 
-returns_4 : tie.Need-returns-4
+returns_4 : tie.Need-returns
 unfolding operation_of
 returns_4 c = record { gives = search steps depth 12; low = search rules }
 

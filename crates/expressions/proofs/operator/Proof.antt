@@ -5,11 +5,11 @@ use Rattle.semantics.specs.Evaluation.{operator_of}
 use Rattle.expressions.proofs.operator.Statement.{statement}
 use Rattle.expressions.proofs.operator.Tie as tie
 
-returns : tie.Need-returns
+returns : tie.Need-returns-then-op-lt-NOT_CODE
 unfolding operator_of
 returns c = record { gives = search steps depth 12; low = search rules }
 
-returns_2 : tie.Need-returns-2
+returns_2 : tie.Need-returns
 unfolding operator_of
 returns_2 c = rw c.given.ensures (record { gives = search steps depth 12; low = search rules })
 

@@ -7,10 +7,10 @@ use Rattle.expressions.proofs.Places.{place_next, place_end}
 use Rattle.expressions.proofs.place.Statement.{statement}
 use Rattle.expressions.proofs.place.Tie as tie
 
-abbrev invariant-loop : tie.invariant-loop
+abbrev invariant-loop : tie.invariant-loop-left
 invariant-loop table count p env chain₀ left₀ chain left = place_of left chain (terms_in table count) ≡ place_of p env (terms_in table count)
 
-abbrev decreases-loop : tie.decreases-loop
+abbrev decreases-loop : tie.decreases-loop-left
 decreases-loop table count p env chain₀ left₀ chain left = left
 
 pub place_spec : {M : Type 1} → statement M

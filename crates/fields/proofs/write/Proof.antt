@@ -7,25 +7,25 @@ use Rattle.semantics.specs.Records.{record_bytes}
 use Rattle.fields.proofs.write.Statement.{statement}
 use Rattle.fields.proofs.write.Tie as tie
 
-slice_write_tail_2 : tie.Need-slice-write-tail-2
+slice_write_tail_2 : tie.Need-bounds-tail-1
 slice_write_tail_2 c = simp length-set (omega arith)
 
-slice_write_tail_3 : tie.Need-slice-write-tail-3
+slice_write_tail_3 : tie.Need-bounds-tail-2
 slice_write_tail_3 c = simp length-set (omega arith)
 
-slice_write_tail_4 : tie.Need-slice-write-tail-4
+slice_write_tail_4 : tie.Need-bounds-tail-3
 slice_write_tail_4 c = simp length-set (omega arith)
 
-slice_write_tail_5 : tie.Need-slice-write-tail-5
+slice_write_tail_5 : tie.Need-bounds-tail-4
 slice_write_tail_5 c = simp length-set (omega arith)
 
-slice_write_tail_6 : tie.Need-slice-write-tail-6
+slice_write_tail_6 : tie.Need-bounds-tail-5
 slice_write_tail_6 c = simp length-set (omega arith)
 
-slice_write_tail_7 : tie.Need-slice-write-tail-7
+slice_write_tail_7 : tie.Need-bounds-tail-6
 slice_write_tail_7 c = simp length-set (omega arith)
 
-slice_write_tail_8 : tie.Need-slice-write-tail-8
+slice_write_tail_8 : tie.Need-bounds-tail-7
 slice_write_tail_8 c = simp length-set (omega arith)
 
 returns : tie.Need-returns

@@ -7,10 +7,10 @@ use Rattle.fitting.proofs.Loops.{same_end, same_next, same_miss}
 use Rattle.fitting.proofs.begins.Statement.{statement}
 use Rattle.fitting.proofs.begins.Tie as tie
 
-abbrev invariant-loop : tie.invariant-loop
+abbrev invariant-loop : tie.invariant-loop-i
 invariant-loop table fresh n i₀ i = same_terms (terms_in table i) (terms_in fresh i) ≡ same_terms (terms_in table n) (terms_in fresh n)
 
-abbrev decreases-loop : tie.decreases-loop
+abbrev decreases-loop : tie.decreases-loop-i
 decreases-loop table fresh n i₀ i = i
 
 pub begins_spec : {M : Type 1} → statement M

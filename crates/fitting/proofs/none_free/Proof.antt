@@ -11,10 +11,10 @@ use Rattle.fitting.proofs.Loops.{free_end, free_next, free_miss}
 use Rattle.fitting.proofs.none_free.Statement.{statement}
 use Rattle.fitting.proofs.none_free.Tie as tie
 
-abbrev invariant-loop : tie.invariant-loop
+abbrev invariant-loop : tie.invariant-loop-i
 invariant-loop table n count i₀ i = every no_free (take (i - n) (terms_in table i)) ≡ every no_free (take (count - n) (terms_in table count))
 
-abbrev decreases-loop : tie.decreases-loop
+abbrev decreases-loop : tie.decreases-loop-i
 decreases-loop table n count i₀ i = i
 
 pub none_free_spec : {M : Type 1} → statement M

@@ -6,22 +6,22 @@ use Rattle.fitting.proofs.Begun.{nothing_past}
 use Rattle.fitting.proofs.opening_fits.Statement.{statement}
 use Rattle.fitting.proofs.opening_fits.Tie as tie
 
-returns : tie.Need-returns
+returns : tie.Need-returns-then-session-n
 returns c = simp terms_length (search tests depth 12)
 
-returns_2 : tie.Need-returns-2
+returns_2 : tie.Need-returns-then-table-session
 returns_2 c = simp terms_length (search tests depth 12)
 
-returns_3 : tie.Need-returns-3
+returns_3 : tie.Need-returns-else-begins
 returns_3 c = simp terms_length (search tests depth 12)
 
-returns_4 : tie.Need-returns-4
+returns_4 : tie.Need-returns-then-session-n-2
 returns_4 c = simp terms_length (search (tests, nothing_past) depth 12)
 
-returns_5 : tie.Need-returns-5
+returns_5 : tie.Need-returns-then-none_free
 returns_5 c = simp terms_length (search tests depth 12)
 
-returns_6 : tie.Need-returns-6
+returns_6 : tie.Need-returns
 returns_6 c = simp terms_length (search tests depth 12)
 
 pub opening_fits_spec : {M : Type 1} → statement M

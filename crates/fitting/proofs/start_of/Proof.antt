@@ -6,13 +6,13 @@ use Rattle.fitting.proofs.Whole.{misfit_size, misfit_input, fits_on}
 use Rattle.fitting.proofs.start_of.Statement.{statement}
 use Rattle.fitting.proofs.start_of.Tie as tie
 
-returns : tie.Need-returns
+returns : tie.Need-returns-then-bad_table_size
 returns c = (search (rules, misfit_size), λ h. absurd (false≢true h))
 
-returns_2 : tie.Need-returns-2
+returns_2 : tie.Need-returns-else-inputs_taken
 returns_2 c = (search (rules, misfit_input), λ h. absurd (false≢true h))
 
-returns_3 : tie.Need-returns-3
+returns_3 : tie.Need-returns
 returns_3 c = (search fits_on fits 20000, λ h. search rules)
 
 pub start_of_spec : {M : Type 1} → statement M

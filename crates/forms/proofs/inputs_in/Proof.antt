@@ -10,16 +10,16 @@ use Rattle.forms.proofs.Taken.{each_start, each_more, inputs_all}
 use Rattle.forms.proofs.inputs_in.Statement.{statement}
 use Rattle.forms.proofs.inputs_in.Tie as tie
 
-abbrev invariant-loop : tie.invariant-loop
+abbrev invariant-loop : tie.invariant-loop-i
 invariant-loop s inputs₀ i₀ inputs i = (i ≤ 16) × (length inputs ≡ 16) × (take i inputs ≡ each_below (input_at s) i)
 
-abbrev decreases-loop : tie.decreases-loop
+abbrev decreases-loop : tie.decreases-loop-i
 decreases-loop s inputs₀ i₀ inputs i = 16 - i
 
-loop_holds : tie.Need-loop-init invariant-loop decreases-loop
+loop_holds : tie.Need-loop-i-init invariant-loop decreases-loop
 loop_holds c = (search rules, search rules, search each_start)
 
-loop_again : tie.Need-loop-preserved invariant-loop decreases-loop
+loop_again : tie.Need-loop-i-preserved invariant-loop decreases-loop
 loop_again c = (search rules, search rules, search (rules, each_more))
 
 pub inputs_in_spec : {M : Type 1} → statement M

@@ -11,16 +11,16 @@ use Rattle.forms.proofs.Taken.{zeroed_miss, zeroed_more, zeroed_all}
 use Rattle.forms.proofs.inputs_zeroed.Statement.{statement}
 use Rattle.forms.proofs.inputs_zeroed.Tie as tie
 
-abbrev invariant-loop : tie.invariant-loop
+abbrev invariant-loop : tie.invariant-loop-i
 invariant-loop s i₀ i = (i ≤ 16) × (up_to i (input_zeroed s) ≡ true)
 
-abbrev decreases-loop : tie.decreases-loop
+abbrev decreases-loop : tie.decreases-loop-i
 decreases-loop s i₀ i = 16 - i
 
-loop_holds : tie.Need-loop-init invariant-loop decreases-loop
+loop_holds : tie.Need-loop-i-init invariant-loop decreases-loop
 loop_holds c = (search rules, up_start _)
 
-loop_again : tie.Need-loop-preserved invariant-loop decreases-loop
+loop_again : tie.Need-loop-i-preserved invariant-loop decreases-loop
 loop_again c = (search rules, search (rules, zeroed_more))
 
 pub inputs_zeroed_spec : {M : Type 1} → statement M

@@ -11,16 +11,16 @@ use Rattle.forms.proofs.Taken.{each_start, each_more, numbers_all}
 use Rattle.forms.proofs.numbers_in.Statement.{statement}
 use Rattle.forms.proofs.numbers_in.Tie as tie
 
-abbrev invariant-loop : tie.invariant-loop
+abbrev invariant-loop : tie.invariant-loop-i
 invariant-loop s numbers₀ i₀ numbers i = (i ≤ 16) × (length numbers ≡ 16) × (take i numbers ≡ each_below (λ j. word_at s (word_bytes * j)) i)
 
-abbrev decreases-loop : tie.decreases-loop
+abbrev decreases-loop : tie.decreases-loop-i
 decreases-loop s numbers₀ i₀ numbers i = 16 - i
 
-loop_holds : tie.Need-loop-init invariant-loop decreases-loop
+loop_holds : tie.Need-loop-i-init invariant-loop decreases-loop
 loop_holds c = (search rules, search rules, search each_start)
 
-loop_again : tie.Need-loop-preserved invariant-loop decreases-loop
+loop_again : tie.Need-loop-i-preserved invariant-loop decreases-loop
 loop_again c = (search rules, search rules, search (rules, each_more))
 
 pub numbers_in_spec : {M : Type 1} → statement M

@@ -11,17 +11,17 @@ use Rattle.forms.proofs.Written.{inputs_none, inputs_more, inputs_long, inputs_d
 use Rattle.forms.proofs.put_inputs.Statement.{statement}
 use Rattle.forms.proofs.put_inputs.Tie as tie
 
-abbrev invariant-loop : tie.invariant-loop
+abbrev invariant-loop : tie.invariant-loop-i
 invariant-loop s₀ inputs i₀ s i = (i ≤ 16) × (length s ≡ length s₀) × (s ≡ sets s₀ 0 (inputs_bytes (take i inputs)))
 
-abbrev decreases-loop : tie.decreases-loop
+abbrev decreases-loop : tie.decreases-loop-i
 decreases-loop s₀ inputs i₀ s i = 16 - i
 
-loop_holds : tie.Need-loop-init invariant-loop decreases-loop
+loop_holds : tie.Need-loop-i-init invariant-loop decreases-loop
 loop_holds c = (search rules, search rules, search (rules, inputs_none))
 
-loop_again : tie.Need-loop-preserved invariant-loop decreases-loop
-loop_again c = (search rules, search rules, inputs_more _ _ _ (omega arith) c.before.before.before.before.before.before.loop.invariant.2 _ c.before.before.put_input.ensures)
+loop_again : tie.Need-loop-i-preserved invariant-loop decreases-loop
+loop_again c = (search rules, search rules, inputs_more _ _ _ (omega arith) c.loop-i.invariant.2 _ c.put_input.ensures)
 
 returns : tie.Need-returns invariant-loop decreases-loop
 returns c = (search (rules, inputs_long), search (rules, inputs_done))

@@ -7,10 +7,10 @@ use Rattle.forms.proofs.Written.{put_case}
 use Rattle.forms.proofs.put_outcome.Statement.{statement}
 use Rattle.forms.proofs.put_outcome.Tie as tie
 
-returns : tie.Need-returns
-returns c = put_case words_of outcome_values _ c.before.before.before.before.before.before.o.given.1 (c.before.before.put_kind.ensures ∙ rw c.before.before.before.bit_of.ensures)
+returns : tie.Need-returns-in-Truth
+returns c = put_case words_of outcome_values _ c.in-Truth.is (c.put_kind.ensures ∙ rw c.bit_of.ensures)
 
-returns_6 : tie.Need-returns-6
+returns_6 : tie.Need-returns-in-Refused
 returns_6 c = cc
 
 pub put_outcome_spec : {M : Type 1} → statement M

@@ -9,5 +9,5 @@ pub code_gate_spec : {M : Type 1} → statement M
 code_gate_spec =
     tie.close
     (tie.spec (λ c κs. search rules) (λ c κs. search rules) (λ c. search rules) (λ c. search rules) (λ c κs. search rules)
-    (λ c. c.gate_number.ensures ∙ code_gate _ _ _ _ c.before.before.before.gate_count.ensures c.before.before.if1.true c.before.gate_start.ensures)
-    (λ c. no_gate _ _ _ c.before.gate_count.ensures (search rules)))
+    (λ c. c.gate_number.ensures ∙ code_gate _ _ _ _ c.gate_count.ensures c.if-i-gate_count.true c.gate_start.ensures)
+    (λ c. no_gate _ _ _ c.gate_count.ensures (search rules)))

@@ -8,4 +8,4 @@ use Rattle.gate_tables.proofs.slot.Tie as tie
 pub slot_spec : {M : Type 1} → statement M
 slot_spec =
     tie.close
-    (tie.spec (λ c. search rules) (λ c. search rules) (λ c. past_end slots c.before.args.i (search rules)))
+    (tie.spec (λ c. search rules) (λ c. search rules) (λ c. past_end slots c.args.i (search rules)))

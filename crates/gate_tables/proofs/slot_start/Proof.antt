@@ -8,4 +8,4 @@ use Rattle.gate_tables.proofs.slot_start.Tie as tie
 pub slot_start_spec : {M : Type 1} → statement M
 slot_start_spec =
     tie.close
-    (tie.spec (λ c. search rules) (λ c. search rules) (λ c. past_end slot_starts c.before.args.f (search rules)))
+    (tie.spec (λ c. search rules) (λ c. search rules) (λ c. past_end slot_starts c.args.f (search rules)))

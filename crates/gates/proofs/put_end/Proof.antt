@@ -8,4 +8,4 @@ pub put_end_spec : {M : Type 1} → statement M
 put_end_spec =
     tie.close
     (tie.spec (λ c κs. search rules) (λ c κs. search rules) (λ c. search rules)
-    (λ c. onward c.before.before.before.before.before.before.put.ensures c.before.before.put2.ensures))
+    (λ c. onward c.put-end.ensures c.put.ensures))

@@ -8,6 +8,6 @@ use Rattle.gates.proofs.put_literal.Tie as tie
 pub put_literal_spec : {M : Type 1} → statement M
 put_literal_spec =
     tie.close
-    (tie.spec (λ c κs. search rules) (λ c. search rules) (λ c. said c.before.before.put_before.ensures (positive _ (search rules)))
+    (tie.spec (λ c κs. search rules) (λ c. search rules) (λ c. said c.put_before.ensures (positive _ (search rules)))
     (λ c κs. search rules) (λ c κs. search rules) (λ c. search rules)
-    (λ c. said (onward c.before.before.before.before.before.before.put.ensures c.before.before.put_before2.ensures) (negative _ (search rules))))
+    (λ c. said (onward c.put-end.ensures c.put_before-2.ensures) (negative _ (search rules))))

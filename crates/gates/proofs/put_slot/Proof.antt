@@ -10,6 +10,6 @@ pub put_slot_spec : {M : Type 1} → statement M
 unfolding slot_text
 put_slot_spec =
     tie.close
-    (tie.spec (λ c κs. search rules) (λ c. search rules) (λ c. said c.before.before.put_end.ensures (search values)) (λ c κs. search rules)
-    (λ c κs. search rules) (λ c. search rules) (λ c. said c.before.before.put_literal.ensures (search values)) (λ c κs. search rules)
-    (λ c κs. search rules) (λ c. search rules) (λ c. said c.before.before.put_literal2.ensures (search values)))
+    (tie.spec (λ c κs. search rules) (λ c. search rules) (λ c. said c.put_end.ensures (search values)) (λ c κs. search rules)
+    (λ c κs. search rules) (λ c. search rules) (λ c. said c.put_literal.ensures (search values)) (λ c κs. search rules)
+    (λ c κs. search rules) (λ c. search rules) (λ c. said c.put_literal-2.ensures (search values)))

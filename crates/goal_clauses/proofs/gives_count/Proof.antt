@@ -7,6 +7,6 @@ use Rattle.goal_clauses.proofs.gives_count.Tie as tie
 pub gives_count_spec : {M : Type 1} → statement M
 gives_count_spec =
     tie.close
-    (tie.spec (λ c. (gives_none _ _ (search rules), search rules, gives_short c.before.args.res (search rules) (search rules) (search rules) _ (search rules)))
+    (tie.spec (λ c. (gives_none _ _ (search rules), search rules, gives_short c.args.res (search rules) (search rules) (search rules) _ (search rules)))
     (λ c. search rules) (λ c. search rules)
-    (λ c. (gives_count _ _ (search rules), search rules, gives_short c.before.args.res (search rules) (search rules) (search rules) _ (search rules))))
+    (λ c. (gives_count _ _ (search rules), search rules, gives_short c.args.res (search rules) (search rules) (search rules) _ (search rules))))

@@ -19,6 +19,6 @@ pub goal_count_spec : {M : Type 1} → statement M
 goal_count_spec =
     tie.close
     (tie.spec (λ c. search rules) (λ c. search rules) (λ c. search rules) (λ c κs. search rules)
-    (λ c. subst (Counts c.before.before.args.res 1) (sym c.enum_told.given.1) (errs_count _, search rules, errs_short c.before.before.args.res (search rules) (search rules)))
-    (λ c. subst (Counts c.before.before.args.res 2) (sym c.enum-told2.given.1) (aborts_count _, search rules, aborts_short c.before.before.args.res (search rules) (search rules)))
-    (λ c. subst (Counts c.before.before.before.before.args.res _) (sym c.before.before.goal.given.1) c.gives_count.ensures))
+    (λ c. subst (Counts c.args.res 1) (sym c.in-Errs.is) (errs_count _, search rules, errs_short c.args.res (search rules) (search rules)))
+    (λ c. subst (Counts c.args.res 2) (sym c.in-Aborts.is) (aborts_count _, search rules, aborts_short c.args.res (search rules) (search rules)))
+    (λ c. subst (Counts c.args.res _) (sym c.in-Gives.is) c.gives_count.ensures))

@@ -9,4 +9,4 @@ pub put_aborts_spec : {M : Type 1} → statement M
 put_aborts_spec =
     tie.close
     (tie.spec (λ c κs. search rules) (λ c κs. search rules) (λ c. search rules) (λ c κs. search rules) (λ c. search rules)
-    (λ c. said c.before.before.put_units.ensures (aborts_given _ c.before.before.before.before.before.truth.ensures.0 c.before.before.before.before.truth2.ensures.0)))
+    (λ c. said c.put_units.ensures (aborts_given _ c.truth-s.ensures.0 c.truth-t.ensures.0)))

@@ -9,6 +9,6 @@ pub put_errs_spec : {M : Type 1} → statement M
 put_errs_spec =
     tie.close
     (tie.spec (λ c κs. search rules) (λ c κs. search rules) (λ c. search rules) (λ c κs. search rules) (λ c. search rules)
-    (λ c. said c.before.before.put_two.ensures (errs_halted _ (search rules) c.before.before.before.before.truth2.ensures.0 c.before.before.before.before.before.before.truth.ensures.0))
+    (λ c. said c.put_two.ensures (errs_halted _ (search rules) c.truth-s.ensures.0 c.truth-t.ensures.0))
     (λ c. search rules) (λ c κs. search rules) (λ c. search rules)
-    (λ c. said c.before.before.put_unit.ensures (errs_given c.before.before.before.before.before.before.before.args.res (search rules) c.before.before.before.before.before.truth.ensures.0)))
+    (λ c. said c.put_unit.ensures (errs_given c.args.res (search rules) c.truth-t.ensures.0)))

@@ -9,6 +9,6 @@ pub put_gives_spec : {M : Type 1} → statement M
 put_gives_spec =
     tie.close
     (tie.spec (λ c κs. search rules) (λ c. search rules)
-    (λ c. said c.before.before.put_end.ensures (gives_halted c.before.before.before.before.before.before.args.res _ (search rules)))
+    (λ c. said c.put_end.ensures (gives_halted c.args.res _ (search rules)))
     (λ c κs. search rules) (λ c κs. search rules) (λ c κs. search rules) (λ c κs. search rules) (λ c κs. search rules) (λ c. search rules)
-    (λ c. said (onward c.before.before.before.before.before.before.before.put_units.ensures c.before.before.put_term.ensures) (gives_word c.before.before.before.before.before.before.before.before.before.before.before.before.before.args.res _ (search rules) c.before.before.before.before.word_term.ensures c.before.before.before.before.before.before.before.before.before.before.truth.ensures.0 c.before.before.before.before.before.before.before.before.before.truth2.ensures.0)))
+    (λ c. said (onward c.put_units-end.ensures c.put_term.ensures) (gives_word c.args.res _ (search rules) c.word_term-word.ensures c.truth-s.ensures.0 c.truth-t.ensures.0)))

@@ -12,8 +12,8 @@ put_goal_spec =
     tie.close
     (tie.spec (λ c. search rules) (λ c κs. search rules) (λ c. search rules) (λ c κs. search rules) (λ c. search rules) (λ c κs. search rules)
     (λ c. search rules)
-    (λ c. said c.before.before.put_errs.ensures (ap (λ g. clauses_text (goal_clauses c.before.before.before.before.before.before.before.args.res g)) (sym c.before.before.before.before.enum_told.given.1)))
+    (λ c. said c.put_errs.ensures (ap (λ g. clauses_text (goal_clauses c.args.res g)) (sym c.in-Errs.is)))
     (λ c. search rules)
-    (λ c. said c.before.before.put_aborts.ensures (ap (λ g. clauses_text (goal_clauses c.before.before.before.before.before.before.before.args.res g)) (sym c.before.before.before.before.enum-told2.given.1)))
+    (λ c. said c.put_aborts.ensures (ap (λ g. clauses_text (goal_clauses c.args.res g)) (sym c.in-Aborts.is)))
     (λ c. search rules)
-    (λ c. said c.before.before.put_gives.ensures (ap (λ g. clauses_text (goal_clauses c.before.before.before.before.before.before.before.before.args.res g)) (sym c.before.before.before.before.before.goal.given.1))))
+    (λ c. said c.put_gives.ensures (ap (λ g. clauses_text (goal_clauses c.args.res g)) (sym c.in-Gives.is))))

@@ -10,4 +10,4 @@ unfolding clause_text
 put_two_spec =
     tie.close
     (tie.spec (λ c κs. search rules) (λ c κs. search rules) (λ c. search rules)
-    (λ c. onward c.before.before.before.before.before.before.put_literal.ensures c.before.before.put_unit.ensures))
+    (λ c. onward c.put_literal-end.ensures c.put_unit.ensures))

@@ -9,4 +9,4 @@ pub put_units_spec : {M : Type 1} → statement M
 put_units_spec =
     tie.close
     (tie.spec (λ c κs. search rules) (λ c κs. search rules) (λ c. search rules)
-    (λ c. said (onward c.before.before.before.before.before.before.put_unit.ensures c.before.before.put_unit2.ensures) (units_text _ _)))
+    (λ c. said (onward c.put_unit-end.ensures c.put_unit.ensures) (units_text _ _)))

@@ -69,11 +69,11 @@ abbrev run_under_below : ℕ → In 2 run-under-kinds.ps
 run_under_below t =
     and 2 run-under-kinds.ps (falls 2 run-under-kinds.ps ◌<◌ μ_run_under t) run-under.Pre
 
-bind_returns_2 : (t : ℕ) → bind-lts.Need-returns-2 (evaluate_below t, evaluate.Post, run_under_below t, run-under.Post) (bind_at t) bind.Post
-bind_returns_2 t c = let_go c.before.before.before.before.before.before.before.before.before.evaluate.ensures _ _ _ _ c.before.before.before.before.before.before.before.before.before.before.before.before.before.requires.1 c.before.before.before.before.before.if1.false c.before.before.run_under.ensures
+bind_returns_2 : (t : ℕ) → bind-lts.Need-returns (evaluate_below t, evaluate.Post, run_under_below t, run-under.Post) (bind_at t) bind.Post
+bind_returns_2 t c = let_go c.evaluate-o.ensures _ _ _ _ c.requires.1 c.if-o-ne-VALUE_END.false c.run_under.ensures
 
-pub +apply-bind-evaluate-run-under-spec : {M : Type 1} → statement M
-+apply-bind-evaluate-run-under-spec =
+pub +apply_bind_evaluate_run_under_spec : {M : Type 1} → statement M
++apply_bind_evaluate_run_under_spec =
     close μ_apply μ_bind μ_evaluate μ_run_under (λ t. apply-lts.spec (
       stopped-reads.Asked,
       stopped-reads.Learnt,

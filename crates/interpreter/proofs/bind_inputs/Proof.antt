@@ -11,20 +11,20 @@ use Rattle.interpreter.proofs.Inputs.{inputs_none, inputs_more, inputs_all}
 use Rattle.interpreter.proofs.bind_inputs.Statement.{statement}
 use Rattle.interpreter.proofs.bind_inputs.Tie as tie
 
-abbrev invariant-loop : tie.invariant-loop
+abbrev invariant-loop : tie.invariant-loop-k
 invariant-loop store₀ inputs numbers k₀ store k = (length store ≡ length store₀) × ((k ≤ input_count) × (chain_in store k ≡ inputs_bound (drop (input_count - k) inputs) (drop (input_count - k) numbers)))
 
-abbrev decreases-loop : tie.decreases-loop
+abbrev decreases-loop : tie.decreases-loop-k
 decreases-loop store₀ inputs numbers k₀ store k = input_count - k
 
-loop_holds : tie.Need-loop-init invariant-loop decreases-loop
-loop_holds c = (refl, (search rules, inputs_none c.before.args.store.now c.before.args.t2 c.before.args.t3 c.before.well_formed.1.0.1.0.1 c.before.well_formed.1.1.0.1.0.1))
+loop_holds : tie.Need-loop-k-init invariant-loop decreases-loop
+loop_holds c = (refl, (search rules, inputs_none c.args.store.now c.args.inputs c.args.numbers c.well_formed.1.0.1.0.1 c.well_formed.1.1.0.1.0.1))
 
-loop_again : tie.Need-loop-preserved invariant-loop decreases-loop
-loop_again c = (search rules, (search rules, inputs_more c.before.before.before.before.before.before.before.loop.store c.before.before.before.before.before.before.before.before.before.args.t2 c.before.before.before.before.before.before.before.before.before.args.t3 c.before.before.before.before.before.before.before.before.before.well_formed.1.0.1.0.1 c.before.before.before.before.before.before.before.before.before.well_formed.1.1.0.1.0.1 c.before.before.before.before.before.before.before.loop.k (search rules) (search rules) c.before.before.before.before.before.before.before.loop.invariant.1.1 _ _ c.before.before.before.before.input_value.ensures.0 c.before.before.before.before.input_value.ensures.1 c.before.before.put_binding.ensures))
+loop_again : tie.Need-loop-k-preserved invariant-loop decreases-loop
+loop_again c = (search rules, (search rules, inputs_more c.loop-k.store c.args.inputs c.args.numbers c.well_formed.1.0.1.0.1 c.well_formed.1.1.0.1.0.1 c.loop-k.k (search rules) (search rules) c.loop-k.invariant.1.1 _ _ c.input_value-v.ensures.0 c.input_value-v.ensures.1 c.put_binding.ensures))
 
 returns : tie.Need-returns invariant-loop decreases-loop
-returns c = (inputs_all _ _ _ _ (omega arith) c.before.loop.invariant.1.1, c.before.loop.invariant.0)
+returns c = (inputs_all _ _ _ _ (omega arith) c.loop-k.invariant.1.1, c.loop-k.invariant.0)
 
 pub bind_inputs_spec : {M : Type 1} → statement M
 bind_inputs_spec =

@@ -5,9 +5,9 @@ use Rattle.semantics.specs.Run.{datum_value}
 use Rattle.interpreter.proofs.datum.Statement.{statement}
 use Rattle.interpreter.proofs.datum.Tie as tie
 
-returns : tie.Need-returns
+returns : tie.Need-returns-then-x-eq-WORD_DATUM
 unfolding datum_value
-returns c = (rw (← c.before.datum_word.ensures) (search values), search rules)
+returns c = (rw (← c.datum_word.ensures) (search values), search rules)
 
 pub datum_spec : {M : Type 1} → statement M
 unfolding datum_value

@@ -9,16 +9,16 @@ use Rattle.interpreter.proofs.Chains.{find_here, find_next, find_lower, find_end
 use Rattle.interpreter.proofs.find.Statement.{statement}
 use Rattle.interpreter.proofs.find.Tie as tie
 
-abbrev invariant-loop : tie.invariant-loop
+abbrev invariant-loop : tie.invariant-loop-at
 invariant-loop store e p at₀ left₀ at left = (placed left (chain_in store at) ≡ placed p (chain_in store e)) × (at ≤ e)
 
-abbrev decreases-loop : tie.decreases-loop
+abbrev decreases-loop : tie.decreases-loop-at
 decreases-loop store e p at₀ left₀ at left = at
 
-loop_holds : tie.Need-loop-init invariant-loop decreases-loop
+loop_holds : tie.Need-loop-at-init invariant-loop decreases-loop
 loop_holds c = (refl, search rules)
 
-loop_again : tie.Need-loop-preserved invariant-loop decreases-loop
+loop_again : tie.Need-loop-at-preserved invariant-loop decreases-loop
 loop_again c = (search find_next, search find_lower)
 
 pub find_spec : {M : Type 1} → statement M

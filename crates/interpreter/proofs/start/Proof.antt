@@ -5,10 +5,10 @@ use Rattle.interpreter.proofs.Runs.{start_full, start_run}
 use Rattle.interpreter.proofs.start.Statement.{statement}
 use Rattle.interpreter.proofs.start.Tie as tie
 
-returns : tie.Need-returns
+returns : tie.Need-returns-then-places-lt-INPUT_COUNT
 returns c = (search start_full, refl)
 
-returns_2 : tie.Need-returns-2
+returns_2 : tie.Need-returns
 returns_2 c = (search start_run, search rules)
 
 pub start_spec : {M : Type 1} → statement M

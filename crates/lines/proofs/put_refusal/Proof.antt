@@ -10,4 +10,4 @@ returns c = refused_line _ (search rules) c.put_line.ensures
 pub put_refusal_spec : {M : Type 1} → statement M
 put_refusal_spec =
     tie.close
-    (tie.spec (λ c. search rules) (λ c. search rules) (λ c κs. search rules) returns)
+    (tie.spec (λ c. search rules) (λ c κs. search rules) returns)

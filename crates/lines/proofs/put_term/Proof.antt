@@ -7,7 +7,7 @@ use Rattle.lines.proofs.put_term.Tie as tie
 
 returns : tie.Need-returns
 unfolding line_text term_line
-returns c = c.before.before.put_numbers.ensures
+returns c = c.put_numbers.ensures
 
 pub put_term_spec : {M : Type 1} → statement M
 put_term_spec =

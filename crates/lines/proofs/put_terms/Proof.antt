@@ -8,20 +8,20 @@ use Rattle.lines.proofs.Lines.{Shown, none_shown, one_shown, all_shown}
 use Rattle.lines.proofs.put_terms.Statement.{statement}
 use Rattle.lines.proofs.put_terms.Tie as tie
 
-abbrev invariant-loop : tie.invariant-loop
+abbrev invariant-loop : tie.invariant-loop-i
 invariant-loop out₀ at table from to end₀ i₀ out end i = (length out ≡ length out₀) × Shown out₀ at table from to out end i
 
-abbrev decreases-loop : tie.decreases-loop
+abbrev decreases-loop : tie.decreases-loop-i
 decreases-loop out₀ at table from to end₀ i₀ out end i = to - i
 
-loop_holds : tie.Need-loop-init invariant-loop decreases-loop
+loop_holds : tie.Need-loop-i-init invariant-loop decreases-loop
 loop_holds c = (search rules, none_shown)
 
-loop_again : tie.Need-loop-preserved invariant-loop decreases-loop
-loop_again c = (search rules, one_shown c.before.before.before.before.before.before.loop.invariant.1 c.before.before.before.before.before.loop-test.true c.before.before.before.term_at.ensures c.before.before.put_term.ensures)
+loop_again : tie.Need-loop-i-preserved invariant-loop decreases-loop
+loop_again c = (search rules, one_shown c.loop-i.invariant.1 c.loop-i-test.true c.term_at.ensures c.put_term-end.ensures)
 
 returns : tie.Need-returns invariant-loop decreases-loop
-returns c = all_shown c.before.loop.invariant.1 c.loop-test.false
+returns c = all_shown c.loop-i.invariant.1 c.loop-i-test.false
 
 pub put_terms_spec : {M : Type 1} → statement M
 put_terms_spec =

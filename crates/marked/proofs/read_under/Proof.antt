@@ -8,18 +8,18 @@ use Rattle.marked.proofs.read_under.Statement.{statement}
 use Rattle.marked.proofs.read_under.Tie as tie
 
 read_marked_requires : tie.Need-read_marked-requires
-read_marked_requires c κs = let marked = c.before.before.before.requires in (marked.enough, closed_under _ _ _ marked)
+read_marked_requires c κs = let marked = c.requires in (marked.enough, closed_under _ _ _ marked)
 
 part_end : tie.Need-slice_bounds-outcome_held-end
 part_end c =
-    let start = c.before.before.before.before.before.before.before in
-    let long = c.before.before.before.read_marked.ensures.long in
+    let start = c in
+    let long = c.read_marked.ensures.long in
     omega (arith, start.requires.enough, long)
 
 returns : tie.Need-returns
 returns c =
-    let marked = c.before.before.before.before.before.before.before.before.before.requires in
-    let read = c.before.before.before.before.before.read_marked.ensures in
+    let marked = c.requires in
+    let read = c.read_marked.ensures in
     (simp unary_clauses at c.outcome_held.ensures ∙ held_result _ _ _ marked read, still_under _ _ _ marked read)
 
 pub read_under_spec : {M : Type 1} → statement M

@@ -7,16 +7,16 @@ use Rattle.merge.proofs.Passes.{Blanks, blanks_start, blanks_next, blanks_end}
 use Rattle.merge.proofs.merge_blank.Statement.{statement}
 use Rattle.merge.proofs.merge_blank.Tie as tie
 
-abbrev invariant-loop : tie.invariant-loop
+abbrev invariant-loop : tie.invariant-loop-i
 invariant-loop n pass table₀ a₀ i₀ table a i = ((length table ≡ length table₀) × (i ≤ n)) × Blanks pass a₀.refusal (a₀.state, a₀.folded) table₀ a₀.count i a.refusal a.count (a.state, a.folded) table
 
-abbrev decreases-loop : tie.decreases-loop
+abbrev decreases-loop : tie.decreases-loop-i
 decreases-loop n pass table₀ a₀ i₀ table a i = n - i
 
-loop_holds : tie.Need-loop-init invariant-loop decreases-loop
+loop_holds : tie.Need-loop-i-init invariant-loop decreases-loop
 loop_holds c = ((search rules, search rules), blanks_start _ _ _ _ _)
 
-loop_again : tie.Need-loop-preserved invariant-loop decreases-loop
+loop_again : tie.Need-loop-i-preserved invariant-loop decreases-loop
 loop_again c = ((search rules, search rules), search blanks_next)
 
 pub merge_blank_spec : {M : Type 1} → statement M

@@ -6,16 +6,16 @@ use Rattle.opening.proofs.Inputs.{TakenFrom, taken_all, taken_more, taken_miss}
 use Rattle.opening.proofs.inputs_taken.Statement.{statement}
 use Rattle.opening.proofs.inputs_taken.Tie as tie
 
-abbrev invariant-loop : tie.invariant-loop
+abbrev invariant-loop : tie.invariant-loop-i
 invariant-loop inputs i₀ i = (i ≤ 16) × TakenFrom inputs i
 
-abbrev decreases-loop : tie.decreases-loop
+abbrev decreases-loop : tie.decreases-loop-i
 decreases-loop inputs i₀ i = i
 
-loop_holds : tie.Need-loop-init invariant-loop decreases-loop
+loop_holds : tie.Need-loop-i-init invariant-loop decreases-loop
 loop_holds c = (search rules, λ k l m. absurd (omega arith))
 
-loop_again : tie.Need-loop-preserved invariant-loop decreases-loop
+loop_again : tie.Need-loop-i-preserved invariant-loop decreases-loop
 loop_again c = (search rules, search taken_more)
 
 pub inputs_taken_spec : {M : Type 1} → statement M

@@ -7,9 +7,9 @@ use Rattle.operators.specs.Operators.{row_of, operators}
 use Rattle.operators.proofs.row.Statement.{statement}
 use Rattle.operators.proofs.row.Tie as tie
 
-returns_2 : tie.Need-returns-2
+returns_2 : tie.Need-returns-else-i-lt-CODES
 unfolding row_of
-returns_2 c = past_end operators c.before.args.op (omega arith)
+returns_2 c = past_end operators c.args.op (omega arith)
 
 pub row_spec : {M : Type 1} → statement M
 unfolding row_of

@@ -6,11 +6,11 @@ use Rattle.parts.proofs.Onward.{refused}
 use Rattle.parts.proofs.enter.Statement.{statement}
 use Rattle.parts.proofs.enter.Tie as tie
 
-returns : tie.Need-returns
+returns : tie.Need-returns-then-assumed-ne0
 unfolding apply_of under_of
-returns c = refused (search rules) c.if1.true (λ b u a. search steps depth 12)
+returns c = refused (search rules) c.if-assumed-ne0.true (λ b u a. search steps depth 12)
 
-returns_2 : tie.Need-returns-2
+returns_2 : tie.Need-returns
 unfolding apply_of under_of
 returns_2 c = record { stops = λ b h. search steps depth 12; goes = λ b h g. search steps depth 12; kept = search appends_on }
 

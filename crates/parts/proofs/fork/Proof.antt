@@ -5,13 +5,13 @@ use Rattle.semantics.specs.Evaluation.{fork_of}
 use Rattle.parts.proofs.fork.Statement.{statement}
 use Rattle.parts.proofs.fork.Tie as tie
 
-returns : tie.Need-returns
+returns : tie.Need-returns-then-not-ne0
 unfolding fork_of
 returns c = rw c.unforked.ensures (search steps depth 12)
 
-returns_2 : tie.Need-returns-2
+returns_2 : tie.Need-returns-then-yes-ne0
 unfolding fork_of
-returns_2 c = rw c.unforked2.ensures (search steps depth 12)
+returns_2 c = rw c.unforked-then-yes-ne0.ensures (search steps depth 12)
 
 pub fork_spec : {M : Type 1} → statement M
 unfolding fork_of

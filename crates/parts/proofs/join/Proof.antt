@@ -5,8 +5,8 @@ use Rattle.parts.proofs.join.Tie as tie
 
 returns : tie.Need-returns
 returns c = (
-  rw (c.before.before.before.before.before.before.before.branch.ensures, c.before.before.before.before.before.before.branch2.ensures) at
-      c.before.before.before.before.merge_two.ensures,
+  rw (c.branch-yes.ensures, c.branch-no.ensures) at
+      c.merge_two-merged.ensures,
   search rules,
 )
 

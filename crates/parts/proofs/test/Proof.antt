@@ -7,19 +7,19 @@ use Rattle.parts.proofs.Onward.{refused, onward}
 use Rattle.parts.proofs.test.Statement.{statement}
 use Rattle.parts.proofs.test.Tie as tie
 
-returns : tie.Need-returns
+returns : tie.Need-returns-then-truth-ne0
 unfolding if_of
-returns c = refused (search rules) c.if1.true (λ b u a. search steps depth 12)
+returns c = refused (search rules) c.if-truth-ne0.true (λ b u a. search steps depth 12)
 
-returns_2 : tie.Need-returns-2
+returns_2 : tie.Need-returns-then-known-eq-KNOWN_TRUE
 unfolding if_of
 returns_2 c = onward (search rules) refl (λ b q e u a z g. search steps depth 12)
 
-returns_3 : tie.Need-returns-3
+returns_3 : tie.Need-returns-then-known-eq-KNOWN_FALSE
 unfolding if_of
 returns_3 c = onward (search rules) refl (λ b q e u a z g. search steps depth 12)
 
-returns_4 : tie.Need-returns-4
+returns_4 : tie.Need-returns
 unfolding if_of
 returns_4 c = onward (search rules) refl (λ b q e u a z g. search steps depth 12)
 

@@ -9,9 +9,9 @@ use Rattle.ranges.proofs.ones_range.Statement.{statement}
 use Rattle.ranges.proofs.ones_range.Tie as tie
 
 -- a word has no more leading zeros than bits
-sub_word_report : tie.Need-sub-word_report
+sub_word_report : tie.Need-overflow_sub-leading_zeros
 sub_word_report c =
-    let few = leading_le width c.before.before.before.args.x.high in
+    let few = leading_le width c.args.x.high in
     let zeros = c.leading_zeros.ensures in
     omega (arith, few, zeros)
 

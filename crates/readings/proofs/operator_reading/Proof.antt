@@ -7,13 +7,13 @@ use Rattle.readings.proofs.operator_reading.Statement.{statement}
 use Rattle.readings.proofs.operator_reading.Tie as tie
 
 -- and, or, not
-returns : tie.Need-returns
+returns : tie.Need-returns-then-op-eq-CONJUNCTION_CODE
 returns c = search (rules, formulas)
 
-returns_2 : tie.Need-returns-2
+returns_2 : tie.Need-returns-then-op-eq-DISJUNCTION_CODE
 returns_2 c = search (rules, formulas)
 
-returns_3 : tie.Need-returns-3
+returns_3 : tie.Need-returns-then-op-eq-NEGATION_CODE
 returns_3 c = search (rules, formulas)
 
 pub operator_reading_spec : {M : Type 1} → statement M

@@ -1,7 +1,6 @@
 -- `record_tests::shapes` meets its contract. The loop's invariant: the records before `i` are shaped. The measure is what is left of `n`.
 -- Assumes nothing.
 use borrow.Author.Rules.{rules}
-use borrow.Author.Tests.{not-true, not-false}
 use mathlib.Core.Path.{◌≡◌}
 use mathlib.Core.Bool.{true}
 use Prim.Native.Nat.{◌≤◌, ◌-◌}
@@ -12,23 +11,23 @@ use Rattle.semantics.specs.Rules.{shaped_of}
 use Rattle.record_tests.proofs.shapes.Statement.{statement}
 use Rattle.record_tests.proofs.shapes.Tie as tie
 
-abbrev invariant-loop : tie.invariant-loop
+abbrev invariant-loop : tie.invariant-loop-i
 invariant-loop rule n i₀ i = (i ≤ n) × (up_to i (λ j. shaped_of (record_at rule j)) ≡ true)
 
-abbrev decreases-loop : tie.decreases-loop
+abbrev decreases-loop : tie.decreases-loop-i
 decreases-loop rule n i₀ i = n - i
 
-loop_holds : tie.Need-loop-init invariant-loop decreases-loop
+loop_holds : tie.Need-loop-i-init invariant-loop decreases-loop
 loop_holds c = (search rules, up_start _)
 
-returns : tie.Need-returns invariant-loop decreases-loop
-returns c = up_stop _ _ _ c.before.before.before.loop-test.true (cc (not-true c.before.shaped.result c.if1.true))
+returns : tie.Need-returns-then-not-shaped invariant-loop decreases-loop
+returns c = up_stop _ _ _ c.loop-i-test.true (cc c.if-not-shaped.true)
 
-loop_again : tie.Need-loop-preserved invariant-loop decreases-loop
-loop_again c = (search rules, up_next _ _ c.before.before.before.before.loop.invariant.1 (cc (not-false c.before.shaped.result c.if1.false)))
+loop_again : tie.Need-loop-i-preserved invariant-loop decreases-loop
+loop_again c = (search rules, up_next _ _ c.loop-i.invariant.1 (cc c.if-not-shaped.false))
 
-returns_2 : tie.Need-returns-2 invariant-loop decreases-loop
-returns_2 c = up_end _ _ _ c.before.loop.invariant.1 c.before.loop.invariant.0 c.loop-test.false
+returns_2 : tie.Need-returns invariant-loop decreases-loop
+returns_2 c = up_end _ _ _ c.loop-i.invariant.1 c.loop-i.invariant.0 c.loop-i-test.false
 
 pub shapes_spec : {M : Type 1} → statement M
 shapes_spec =

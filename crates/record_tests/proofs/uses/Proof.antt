@@ -5,63 +5,63 @@ use Rattle.notation.proofs.Follow.{values}
 use Rattle.record_tests.proofs.uses.Statement.{statement}
 use Rattle.record_tests.proofs.uses.Tie as tie
 
-returns : tie.Need-returns
+returns : tie.Need-returns-then-x-lt-WORD_DATUM
 unfolding uses_of
 returns c = search values depth 14 fits 8000
 
-returns_2 : tie.Need-returns-2
+returns_2 : tie.Need-returns-then-x-eq-WORD_DATUM
 unfolding uses_of
 returns_2 c = search values depth 14 fits 8000
 
-returns_3 : tie.Need-returns-3
+returns_3 : tie.Need-returns-else-x-eq-WORD_DATUM
 unfolding uses_of
 returns_3 c = search values depth 14 fits 8000
 
-returns_4 : tie.Need-returns-4
+returns_4 : tie.Need-returns-then-x-gt-IS_PROCEDURE_CODE
 unfolding uses_of
 returns_4 c = search values depth 14 fits 8000
 
-returns_5 : tie.Need-returns-5
+returns_5 : tie.Need-returns-then-n-eq0
 unfolding uses_of
 returns_5 c = search values depth 14 fits 8000
 
-returns_6 : tie.Need-returns-6
+returns_6 : tie.Need-returns-else-n-eq0
 unfolding uses_of
 returns_6 c = search values depth 14 fits 8000
 
-returns_7 : tie.Need-returns-7
+returns_7 : tie.Need-returns-in-2
 unfolding uses_of
 returns_7 c = search values depth 14 fits 8000
 
-returns_8 : tie.Need-returns-8
+returns_8 : tie.Need-returns-in-3
 unfolding uses_of
 returns_8 c = search values depth 14 fits 8000
 
-returns_9 : tie.Need-returns-9
+returns_9 : tie.Need-returns-in-4
 unfolding uses_of
 returns_9 c = search values depth 14 fits 8000
 
-returns_10 : tie.Need-returns-10
+returns_10 : tie.Need-returns-in-6
 unfolding uses_of
 returns_10 c = search values depth 14 fits 8000
 
-returns_11 : tie.Need-returns-11
+returns_11 : tie.Need-returns-in-7
 unfolding uses_of
 returns_11 c = search values depth 14 fits 8000
 
-returns_12 : tie.Need-returns-12
+returns_12 : tie.Need-returns-in-8
 unfolding uses_of
 returns_12 c = search values depth 14 fits 8000
 
-returns_13 : tie.Need-returns-13
+returns_13 : tie.Need-returns-in-9
 unfolding uses_of
 returns_13 c = search values depth 14 fits 8000
 
-returns_14 : tie.Need-returns-14
+returns_14 : tie.Need-returns-in_default
 unfolding uses_of
 returns_14 c = search values depth 14 fits 8000
 
-returns_15 : tie.Need-returns-15
+returns_15 : tie.Need-returns
 unfolding uses_of
 returns_15 c = search values depth 14 fits 8000
 

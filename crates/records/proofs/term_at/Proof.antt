@@ -7,7 +7,7 @@ use Rattle.records.proofs.term_at.Tie as tie
 
 returns : tie.Need-returns
 unfolding term_at with
-returns c = rw (← c.record_at.ensures)
+returns c = rw (← c.record_at-x.ensures)
 
 pub term_at_spec : {M : Type 1} → statement M
 term_at_spec = tie.close (tie.spec (λ c κs. search rules) returns)

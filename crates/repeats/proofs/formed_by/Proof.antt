@@ -11,25 +11,25 @@ use Rattle.repeats.proofs.Marks.{Marked, mark_inside, marked_start, marked_next,
 use Rattle.repeats.proofs.formed_by.Statement.{statement}
 use Rattle.repeats.proofs.formed_by.Tie as tie
 
-abbrev invariant-loop : tie.invariant-loop
+abbrev invariant-loop : tie.invariant-loop-i
 invariant-loop table n accepted first₀ second₀ bits i₀ first second i =
     ((i ≤ n) × (well_formed accepted (terms_in table i) ≡ true))
     × ((Marked first_factor bits (terms_in table i) first × Marked second_factor bits (terms_in table i) second) × ((length first ≡ length first₀) × (length second ≡ length second₀)))
 
-abbrev decreases-loop : tie.decreases-loop
+abbrev decreases-loop : tie.decreases-loop-i
 decreases-loop table n accepted first₀ second₀ bits i₀ first second i = n - i
 
-loop_holds : tie.Need-loop-init invariant-loop decreases-loop
+loop_holds : tie.Need-loop-i-init invariant-loop decreases-loop
 loop_holds c = ((search rules, formed_start _ _), ((search (rules, marked_start), search (rules, marked_start)), (search rules, search rules)))
 
-loop_again : tie.Need-loop-preserved invariant-loop decreases-loop
+loop_again : tie.Need-loop-i-preserved invariant-loop decreases-loop
 loop_again c =
-    let p = c.before.before.before.before.before.before.before in
-    let t = p.before.term_at.ensures in
-    let l = p.before.before.before.loop.invariant in
-    let x = c.before.before.before.before.before.mark_of.ensures in
-    let y = c.before.before.before.before.mark_of2.ensures in
-    let w = formed_next _ _ _ l.0.1 t p.laid_out.ensures c.before.before.before.before.before.before.if1.true _ _ _ l.1.0.0 l.1.0.1 x y c.before.repeated.ensures c.if2.false in
+    let p = c in
+    let t = p.term_at-t.ensures in
+    let l = p.loop-i.invariant in
+    let x = c.mark_of.ensures in
+    let y = c.mark_of-in-loop-i.ensures in
+    let w = formed_next _ _ _ l.0.1 t p.laid_out.ensures c.if-laid_out.true _ _ _ l.1.0.0 l.1.0.1 x y c.repeated.ensures c.if-repeated.false in
     ((search rules, w), ((marked_next _ _ _ _ l.1.0.0 t x, marked_next _ _ _ _ l.1.0.1 t y), (search rules, search rules)))
 
 pub formed_by_spec : {M : Type 1} → statement M

@@ -7,17 +7,17 @@ use Rattle.rules.specs.Turns.{rule_turns_of}
 use Rattle.rules.proofs.check.Statement.{statement}
 use Rattle.rules.proofs.check.Tie as tie
 
-returns : tie.Need-returns
+returns : tie.Need-returns-then-bad_size
 unfolding rule_refusal_of rule_turns_of
 returns c = (search tests, search tests)
 
-cast_tests : tie.Need-overflow_cast-tests
-cast_tests c = omega (arith, good_size _ c.before.bad_size.ensures c.if1.false)
+cast_tests : tie.Need-overflow_cast-l
+cast_tests c = omega (arith, good_size _ c.bad_size.ensures c.if-bad_size.false)
 
 tests_requires : tie.Need-tests-requires
-tests_requires c κs = omega (arith, good_size _ c.before.bad_size.ensures c.if1.false)
+tests_requires c κs = omega (arith, good_size _ c.bad_size.ensures c.if-bad_size.false)
 
-returns_2 : tie.Need-returns-2
+returns_2 : tie.Need-returns
 unfolding rule_refusal_of rule_turns_of
 returns_2 c = (search tests, search tests)
 

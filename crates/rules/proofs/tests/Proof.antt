@@ -8,11 +8,11 @@ use Rattle.rules.specs.Turns.{test_turns_of}
 use Rattle.rules.proofs.tests.Statement.{statement}
 use Rattle.rules.proofs.tests.Tie as tie
 
-returns : tie.Need-returns
+returns : tie.Need-returns-then-not-shapes
 unfolding tests_of test_turns_of
 returns c = (search (values, not-true, not-false) depth 8, search (values, not-true, not-false) depth 8)
 
-returns_2 : tie.Need-returns-2
+returns_2 : tie.Need-returns
 unfolding tests_of tree_and_scopes_of test_turns_of
 returns_2 c = (search (values, not-true, not-false) depth 8, search (values, not-true, not-false) depth 8)
 

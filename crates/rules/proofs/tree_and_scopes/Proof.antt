@@ -8,20 +8,20 @@ use Rattle.rules.proofs.tree_and_scopes.Tie as tie
 in_requires : tie.Need-tree_and_scopes_in-requires
 in_requires c κs = (search rules, (cleared _ 64 (search rules), cleared _ 64 (search rules)))
 
-in_requires_2 : tie.Need-tree_and_scopes_in-requires-2
+in_requires_2 : tie.Need-tree_and_scopes_in-requires-then-n-le-MORE
 in_requires_2 c κs = (search rules, (cleared _ 512 (search rules), cleared _ 512 (search rules)))
 
-in_requires_3 : tie.Need-tree_and_scopes_in-requires-3
+in_requires_3 : tie.Need-tree_and_scopes_in-requires-2
 in_requires_3 c κs = (search rules, (cleared _ record_limit (search rules), cleared _ record_limit (search rules)))
 
-returns : tie.Need-returns
-returns c = let e = c.before.before.tree_and_scopes_in.ensures in (e.0, e.1.0)
+returns : tie.Need-returns-then-n-le-FEW
+returns c = let e = c.tree_and_scopes_in.ensures in (e.0, e.1.0)
 
-returns_2 : tie.Need-returns-2
-returns_2 c = let e = c.before.before.tree_and_scopes_in2.ensures in (e.0, e.1.0)
+returns_2 : tie.Need-returns-then-n-le-MORE
+returns_2 c = let e = c.tree_and_scopes_in-then-n-le-MORE.ensures in (e.0, e.1.0)
 
-returns_3 : tie.Need-returns-3
-returns_3 c = let e = c.before.before.tree_and_scopes_in3.ensures in (e.0, e.1.0)
+returns_3 : tie.Need-returns
+returns_3 c = let e = c.tree_and_scopes_in-2.ensures in (e.0, e.1.0)
 
 pub tree_and_scopes_spec : {M : Type 1} → statement M
 tree_and_scopes_spec =

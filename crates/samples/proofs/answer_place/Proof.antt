@@ -8,14 +8,14 @@ use Rattle.samples.proofs.Lists.{place_case}
 use Rattle.samples.proofs.answer_place.Statement.{statement}
 use Rattle.samples.proofs.answer_place.Tie as tie
 
-returns : tie.Need-returns
-returns c = place_case c.before.before.before.o.given.1 (c.place.ensures ∙ ap (λ n. word_limit * truth_term + n) c.before.bit.ensures)
+returns : tie.Need-returns-in-Truth
+returns c = place_case c.in-Truth.is (c.place.ensures ∙ ap (λ n. word_limit * truth_term + n) c.bit.ensures)
 
-returns_2 : tie.Need-returns-2
-returns_2 c = place_case c.before.before.o2.given.1 c.place2.ensures
+returns_2 : tie.Need-returns-in-Word
+returns_2 c = place_case c.in-Word.is c.place-in-Word.ensures
 
-returns_3 : tie.Need-returns-3
-returns_3 c = place_case c.before.before.o3.given.1 c.place3.ensures
+returns_3 : tie.Need-returns-in-Procedure
+returns_3 c = place_case c.in-Procedure.is c.place-in-Procedure.ensures
 
 pub answer_place_spec : {M : Type 1} → statement M
 answer_place_spec =

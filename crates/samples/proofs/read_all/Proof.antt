@@ -8,21 +8,21 @@ use Rattle.samples.proofs.read_all.Tie as tie
 
 read_each_requires : tie.Need-read_each-requires
 read_each_requires c κs =
-    let start = c.before.before.before.before.before.before.before.before.before.before.before.before in
-    let refused = c.before.before.before.before.before.before.before.refusal.ensures in
-    let passed = c.before.before.before.before.before.before.if1.false in
-    let marked = c.before.before.before.before.mark_under.ensures in (
+    let start = c in
+    let refused = c.refusal-refusal.ensures in
+    let passed = c.if-refusal-ne0.false in
+    let marked = c.mark_under.ensures in (
       all_marked start.args.session _ _ start.args.numbers.now start.args.work.now start.args.answers.now refused passed marked,
       all_whole start.args.session _ _ start.args.numbers.now start.args.work.now start.args.answers.now refused passed,
     )
 
-returns_2 : tie.Need-returns-2
+returns_2 : tie.Need-returns
 returns_2 c =
-    let checked = c.before.before.before.before.before.before.before.before.before.before.before.before.before.before.before in
-    let read = c.before.before.before.before.before.before.before.before.read_each.ensures in
-    let after-reading = c.before.before.before.before.before.before.before.work3.given in
-    let after-marking = c.before.before.before.before.before.before.before.before.before.before.before.before.work2.given in
-    let start = checked.before.before.before.before.before.before in
+    let checked = c in
+    let read = c.read_each.ensures in
+    let after-reading = c.work-3-1.given in
+    let after-marking = c.work-2-1.given in
+    let start = checked in
     all_read
     start.args.session
     _
@@ -30,9 +30,9 @@ returns_2 c =
     start.args.numbers.now
     start.args.work.now
     start.args.answers.now
-    checked.before.refusal.ensures
-    checked.if1.false
-    (zero_as _ _ c.before.before.wipe2.ensures (after-reading ∙ after-marking))
+    checked.refusal-refusal.ensures
+    checked.if-refusal-ne0.false
+    (zero_as _ _ c.wipe-2.ensures (after-reading ∙ after-marking))
     read
 
 pub read_all_spec : {M : Type 1} → statement M

@@ -11,39 +11,39 @@ use Rattle.samples.proofs.Lists.{answers_start, answers_next, answers_end}
 use Rattle.samples.proofs.read_each.Statement.{statement}
 use Rattle.samples.proofs.read_each.Tie as tie
 
-abbrev invariant-loop : tie.invariant-loop
+abbrev invariant-loop : tie.invariant-loop-j
 invariant-loop session table result numbers work₀ answers₀ inputs j₀ work answers j =
     (((j ≤ length answers₀) × (length work ≡ length work₀)) × Under table session.count result work)
     × Answers session.inputs table session.count result numbers answers₀ j answers
 
-abbrev decreases-loop : tie.decreases-loop
+abbrev decreases-loop : tie.decreases-loop-j
 decreases-loop session table result numbers work₀ answers₀ inputs j₀ work answers j = length answers₀ - j
 
-loop_holds : tie.Need-loop-init invariant-loop decreases-loop
-loop_holds c = (((search rules, refl), c.before.before.before.before.before.requires.0), answers_start _ _ _ _ _ _)
+loop_holds : tie.Need-loop-j-init invariant-loop decreases-loop
+loop_holds c = (((search rules, refl), c.requires.0), answers_start _ _ _ _ _ _)
 
-sample_at_requires : tie.Need-sample_at-requires invariant-loop decreases-loop
+sample_at_requires : tie.Need-sample_at-sample-requires invariant-loop decreases-loop
 sample_at_requires c κs =
-    let long = c.before.loop.invariant.1.long in
-    omega (arith, c.loop-test.true, c.before.before.before.before.before.before.before.requires.1, long)
+    let long = c.loop-j.invariant.1.long in
+    omega (arith, c.loop-j-test.true, c.requires.1, long)
 
-read_sample_requires : tie.Need-read_sample-requires invariant-loop decreases-loop
-read_sample_requires c κs = c.before.before.before.loop.invariant.0.1
+read_sample_requires : tie.Need-read_sample-outcome-requires invariant-loop decreases-loop
+read_sample_requires c κs = c.loop-j.invariant.0.1
 
-loop_again : tie.Need-loop-preserved invariant-loop decreases-loop
+loop_again : tie.Need-loop-j-preserved invariant-loop decreases-loop
 loop_again c =
-    let at-loop = c.before.before.before.before.before.before.before in
-    let tested = c.before.before.before.before.before.before.loop-test.true in
-    let read = c.before.before.before.read_sample.ensures in
-    let long = at-loop.loop.invariant.1.long in (
+    let at-loop = c in
+    let tested = c.loop-j-test.true in
+    let read = c.read_sample-outcome.ensures in
+    let long = at-loop.loop-j.invariant.1.long in (
       (search (rules, tested, long), read.1),
-      answers_next _ _ _ _ _ _ _ at-loop.loop.invariant.1 tested c.before.before.before.before.before.sample_at.ensures read.0 c.answer_place.ensures,
+      answers_next _ _ _ _ _ _ _ at-loop.loop-j.invariant.1 tested c.sample_at-sample.ensures read.0 c.answer_place-v.ensures,
     )
 
 returns : tie.Need-returns invariant-loop decreases-loop
 returns c =
-    let long = c.before.loop.invariant.1.long in
-    answers_end _ _ _ _ _ _ _ _ _ c.before.loop.invariant.1 c.before.loop.invariant.0.0.0 (omega (arith, c.loop-test.false, long))
+    let long = c.loop-j.invariant.1.long in
+    answers_end _ _ _ _ _ _ _ _ _ c.loop-j.invariant.1 c.loop-j.invariant.0.0.0 (omega (arith, c.loop-j-test.false, long))
 
 pub read_each_spec : {M : Type 1} → statement M
 read_each_spec =

@@ -6,17 +6,17 @@ use Rattle.samples.proofs.Ways.{result_short, result_read}
 use Rattle.samples.proofs.read_result.Statement.{statement}
 use Rattle.samples.proofs.read_result.Tie as tie
 
-returns : tie.Need-returns
+returns : tie.Need-returns-then-work-count
 returns c = (search result_short, search (rules, zero_as))
 
-read_under_requires : tie.Need-read_under-requires
+read_under_requires : tie.Need-read_under-outcome-requires
 read_under_requires c κs =
-    under_by _ _ _ c.before.before.before.before.before.if1.false c.before.before.before.mark_under.ensures
+    under_by _ _ _ c.if-work-count.false c.mark_under.ensures
 
-returns_2 : tie.Need-returns-2
+returns_2 : tie.Need-returns
 returns_2 c =
-    let long = c.before.before.before.before.before.before.before.before.before.before.before.before.if1.false in
-    (result_read _ _ _ _ _ long c.before.before.before.before.before.before.read_under.ensures.0, search (rules, zero_as))
+    let long = c.if-work-count.false in
+    (result_read _ _ _ _ _ long c.read_under-outcome.ensures.0, search (rules, zero_as))
 
 pub read_result_spec : {M : Type 1} → statement M
 read_result_spec =

@@ -5,26 +5,21 @@ use Rattle.sessions.proofs.Order.{zero_le, refused_misfit, refused_rule, refused
 use Rattle.sessions.proofs.evaluate.Statement.{statement}
 use Rattle.sessions.proofs.evaluate.Tie as tie
 
-returns_5 : tie.Need-returns-5
+returns_5 : tie.Need-returns-then-session
 returns_5 c =
-    let told = c.before.before.before.before.before.before.before in
-    let start = told.before.before.before.before.before.before in
-    answered_halt start.args.session start.args.table.now start.args.rule.now start.args.allowance told.before.before.start_of_lem.ensures.0 told.before.if1.true
-    told.refusal.ensures c.before.before.before.before.before.before.if2.false c.before.before.before.before.before.bad_depth.ensures c.before.before.before.before.if3.false c.before.before.if4.false c.before.if5.true (c.halted_again.ensures start.args.table.now)
+    answered_halt c.args.session c.args.table.now c.args.rule.now c.args.allowance c.start_of-start.ensures.0 c.if-start.true
+    c.refusal-k.ensures c.if-k-gt0.false c.bad_depth.ensures c.if-bad_depth.false c.if-session-ge-RULE_LIMIT.false c.if-session.true (c.halted_again.ensures c.args.table.now)
 
 evaluated_requires : tie.Need-evaluated-requires
 evaluated_requires c κs =
-    let told = c.before.before.before.before.before.before.before in
-    let h = c.before.before.before.before.before.before.if2.false in
-    let f = told.before.before.start_of_lem.ensures in
-    ((sym f.0 ∙ told.before.if1.true, sym told.refusal.ensures ∙ zero_le h, c.before.before.if4.false), f.1 told.before.if1.true)
+    let h = c.if-k-gt0.false in
+    let f = c.start_of-start.ensures in
+    ((sym f.0 ∙ c.if-start.true, sym c.refusal-k.ensures ∙ zero_le h, c.if-session-ge-RULE_LIMIT.false), f.1 c.if-start.true)
 
-returns_6 : tie.Need-returns-6
+returns_6 : tie.Need-returns
 returns_6 c =
-    let told = c.before.before.before.before.before.before.before.before.before.before in
-    let start = told.before.before.before.before.before.before in
-    answered start.args.session start.args.table.now start.args.rule.now start.args.allowance told.before.before.start_of_lem.ensures.0 told.before.if1.true
-    told.refusal.ensures c.before.before.before.before.before.before.before.before.before.if2.false c.before.before.before.before.before.before.before.before.bad_depth.ensures c.before.before.before.before.before.before.before.if3.false c.before.before.before.before.before.if4.false c.before.before.before.before.if5.false c.before.before.evaluated.ensures
+    answered c.args.session c.args.table.now c.args.rule.now c.args.allowance c.start_of-start.ensures.0 c.if-start.true
+    c.refusal-k.ensures c.if-k-gt0.false c.bad_depth.ensures c.if-bad_depth.false c.if-session-ge-RULE_LIMIT.false c.if-session.false c.evaluated.ensures
 
 pub evaluate_spec : {M : Type 1} → statement M
 evaluate_spec =

@@ -10,38 +10,38 @@ use Rattle.spans.proofs.Lists.{laid_start, laid_next, laid_end}
 use Rattle.spans.proofs.fill.Statement.{statement}
 use Rattle.spans.proofs.fill.Tie as tie
 
-abbrev invariant-loop : tie.invariant-loop
+abbrev invariant-loop : tie.invariant-loop-i
 invariant-loop table count lows highs list₀ i₀ list i = ((i ≤ count) × (length list ≡ length list₀)) × Laid lows highs table list₀ i list
 
-abbrev decreases-loop : tie.decreases-loop
+abbrev decreases-loop : tie.decreases-loop-i
 decreases-loop table count lows highs list₀ i₀ list i = count - i
 
-loop_holds : tie.Need-loop-init invariant-loop decreases-loop
+loop_holds : tie.Need-loop-i-init invariant-loop decreases-loop
 loop_holds c = ((search rules, refl), laid_start _ _ _ _)
 
 add_i : tie.Need-overflow_add-i invariant-loop decreases-loop
-add_i c = search (rules, c.before.before.before.before.before.before.before.before.before.before.before.before.loop-test.true, c.before.before.before.before.before.before.before.before.before.before.before.before.before.before.before.before.ranges)
+add_i c = search (rules, c.loop-i-test.true, c.ranges)
 
-loop_less : tie.Need-loop-smaller invariant-loop decreases-loop
-loop_less c = search (rules, c.before.before.before.before.before.before.before.before.before.before.before.before.loop-test.true)
+loop_less : tie.Need-loop-i-smaller invariant-loop decreases-loop
+loop_less c = search (rules, c.loop-i-test.true)
 
-loop_again : tie.Need-loop-preserved invariant-loop decreases-loop
+loop_again : tie.Need-loop-i-preserved invariant-loop decreases-loop
 loop_again c =
-    let put = c.before.before.put_report.ensures in
-    let at-loop = c.before.before.before.before.before.before.before.before.before.before.before.before.before in
-    let tested = c.before.before.before.before.before.before.before.before.before.before.before.before.loop-test.true in
-    let asked = c.before.before.before.before.before.before.before.before.before.before.before.before.before.before.before.before.requires in
-    let same = at-loop.loop.invariant.0.1 in (
+    let put = c.put_report.ensures in
+    let at-loop = c in
+    let tested = c.loop-i-test.true in
+    let asked = c.requires in
+    let same = at-loop.loop-i.invariant.0.1 in (
       (search (rules, tested), put.long ∙ same),
       laid_next
           _
-          at-loop.loop.invariant.1
+          at-loop.loop-i.invariant.1
           (omega (arith, tested, asked, same))
-          c.before.before.before.before.before.before.before.before.before.before.before.term_at.ensures
-          c.before.before.before.before.before.before.before.before.before.lower.ensures
-          c.before.before.before.before.before.before.before.lower2.ensures
-          c.before.before.before.before.before.lower3.ensures
-          c.before.before.before.before.term_report.ensures
+          c.term_at-t.ensures
+          c.lower-x.ensures
+          c.lower-y.ensures
+          c.lower-z.ensures
+          c.term_report-r.ensures
           put,
     )
 

@@ -10,7 +10,7 @@ bits_gate_spec =
     tie.close
     (tie.spec (λ c κs. search rules) (λ c. search rules) (λ c. search rules) (λ c κs. search rules) (λ c. search rules) (λ c. search rules) (λ c. search rules) (λ c. search rules)
     (λ c. search rules) (λ c. search rules) (λ c. search rules) (λ c. search rules)
-    (λ c. kind_bit c.before.before.args.first c.before.before.args.second c.before.before.args.w c.before.before.args.i (search rules) (search rules) (search rules) refl)
-    (λ c. kind_first c.before.before.args.first c.before.before.args.second c.before.before.args.w c.before.before.args.i (search rules) c.bit.ensures)
-    (λ c. kind_second c.before.before.args.first c.before.before.args.second c.before.before.args.w c.before.before.args.i (search rules) c.bit2.ensures)
-    (λ c. kind_past c.before.before.args.first c.before.before.args.second c.before.before.args.w c.before.before.args.i (search rules)))
+    (λ c. kind_bit c.args.first c.args.second c.args.w c.args.i (search rules) (search rules) (search rules) refl)
+    (λ c. kind_first c.args.first c.args.second c.args.w c.args.i (search rules) c.bit.ensures)
+    (λ c. kind_second c.args.first c.args.second c.args.w c.args.i (search rules) c.bit-in-1.ensures)
+    (λ c. kind_past c.args.first c.args.second c.args.w c.args.i (search rules)))

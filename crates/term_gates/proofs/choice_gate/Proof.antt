@@ -9,4 +9,4 @@ choice_gate_spec =
     tie.close
     (tie.spec (λ c. search rules) (λ c. search rules) (λ c. search rules) (λ c. search rules) (λ c. search rules) (λ c. search rules) (λ c. search rules)
     (λ c. search rules) (λ c. search rules) (λ c. search rules) (λ c. search rules) (λ c. search rules) (λ c. search rules)
-    (λ c. choice_at c.before.args.i (search rules)) (λ c. choice_past c.before.args.i (search rules)))
+    (λ c. choice_at c.args.i (search rules)) (λ c. choice_past c.args.i (search rules)))

@@ -8,6 +8,6 @@ use Rattle.term_gates.proofs.free_truth_gate.Tie as tie
 pub free_truth_gate_spec : {M : Type 1} → statement M
 free_truth_gate_spec =
     tie.close
-    (tie.spec (λ c κs. search rules) (λ c. c.bits_gate.ensures ∙ free_kind c.before.before.args.i (search rules)) (λ c. search rules) (λ c. search rules)
-    (λ c κs. search rules) (λ c. c.bits_gate2.ensures ∙ free_bit c.before.before.before.args.i (search rules))
-    (λ c. free_past c.before.before.args.i (search rules)))
+    (tie.spec (λ c κs. search rules) (λ c. c.bits_gate.ensures ∙ free_kind c.args.i (search rules)) (λ c. search rules) (λ c. search rules)
+    (λ c κs. search rules) (λ c. c.bits_gate-then-i.ensures ∙ free_bit c.args.i (search rules))
+    (λ c. free_past c.args.i (search rules)))

@@ -11,6 +11,6 @@ pub helper_count_spec : {M : Type 1} → statement M
 helper_count_spec =
     tie.close
     (tie.spec (λ c κs. search rules)
-    (λ c. (operator_helpers _ _ (search rules) (by_count helpers _ _ 1 (λ up. shift_helpers up _) c.before.by_constant.ensures (search values)), search rules)) (λ c κs. search rules)
-    (λ c. (operator_helpers _ _ (search rules) (by_count helpers _ _ 1 (λ up. shift_helpers up _) c.before.before.by_constant.ensures (let e = c.helper_count.ensures.0 in search values)), c.helper_count.ensures.1))
+    (λ c. (operator_helpers _ _ (search rules) (by_count helpers _ _ 1 (λ up. shift_helpers up _) c.by_constant.ensures (search values)), search rules)) (λ c κs. search rules)
+    (λ c. (operator_helpers _ _ (search rules) (by_count helpers _ _ 1 (λ up. shift_helpers up _) c.by_constant.ensures (let e = c.helper_count.ensures.0 in search values)), c.helper_count.ensures.1))
     (λ c. (other_helpers _ _ (search rules), search rules)))

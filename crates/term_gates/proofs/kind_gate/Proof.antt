@@ -9,5 +9,5 @@ pub kind_gate_spec : {M : Type 1} → statement M
 kind_gate_spec =
     tie.close
     (tie.spec (λ c κs. search rules)
-    (λ c. c.bits_gate.ensures ∙ alone c.before.before.args.first c.before.before.args.second c.before.before.args.i (search rules))
-    (λ c. alone_past c.before.args.first c.before.args.second c.before.args.i (search rules)))
+    (λ c. c.bits_gate.ensures ∙ alone c.args.first c.args.second c.args.i (search rules))
+    (λ c. alone_past c.args.first c.args.second c.args.i (search rules)))

@@ -10,5 +10,5 @@ use Rattle.term_gates.proofs.operation_clause_count.Tie as tie
 pub operation_clause_count_spec : {M : Type 1} → statement M
 operation_clause_count_spec =
     tie.close
-    (tie.spec (λ c κs. search rules) (λ c. search rules) (λ c. search rules) (λ c. by_count (λ gs. length (clauses gs)) _ _ 53 (λ up. shift_clauses up _) c.before.by_constant.ensures (search values)) (λ c κs. search rules)
-    (λ c. by_count (λ gs. length (clauses gs)) _ _ 53 (λ up. shift_clauses up _) c.before.before.by_constant.ensures (search values)))
+    (tie.spec (λ c κs. search rules) (λ c. search rules) (λ c. search rules) (λ c. by_count (λ gs. length (clauses gs)) _ _ 53 (λ up. shift_clauses up _) c.by_constant.ensures (search values)) (λ c κs. search rules)
+    (λ c. by_count (λ gs. length (clauses gs)) _ _ 53 (λ up. shift_clauses up _) c.by_constant.ensures (search values)))

@@ -11,5 +11,5 @@ pub operation_gate_spec : {M : Type 1} → statement M
 operation_gate_spec =
     tie.close
     (tie.spec (λ c κs. search rules) (λ c κs. search rules) (λ c κs. search rules)
-    (λ c. by_shift (λ gs. get_or (map packed gs) c.before.before.before.before.args.i 0) _ _ c.before.before.before.by_constant.ensures (search rules) c.before.join.ensures c.shift_gate.ensures)
-    (λ c κs. search rules) (λ c. by_code (λ gs. get_or (map packed gs) c.before.before.before.args.i 0) _ _ c.before.before.by_constant.ensures (search rules) c.code_gate.ensures))
+    (λ c. by_shift (λ gs. get_or (map packed gs) c.args.i 0) _ _ c.by_constant.ensures (search rules) c.join.ensures c.shift_gate.ensures)
+    (λ c κs. search rules) (λ c. by_code (λ gs. get_or (map packed gs) c.args.i 0) _ _ c.by_constant.ensures (search rules) c.code_gate.ensures))

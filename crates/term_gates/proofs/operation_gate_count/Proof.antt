@@ -9,5 +9,5 @@ use Rattle.term_gates.proofs.operation_gate_count.Tie as tie
 pub operation_gate_count_spec : {M : Type 1} → statement M
 operation_gate_count_spec =
     tie.close
-    (tie.spec (λ c κs. search rules) (λ c. by_count length _ _ 19 (λ up. shift_gates_lem up _) c.before.by_constant.ensures (search values)) (λ c κs. search rules)
-    (λ c. by_count length _ _ 19 (λ up. shift_gates_lem up _) c.before.before.by_constant.ensures (search values)))
+    (tie.spec (λ c κs. search rules) (λ c. by_count length _ _ 19 (λ up. shift_gates_lem up _) c.by_constant.ensures (search values)) (λ c κs. search rules)
+    (λ c. by_count length _ _ 19 (λ up. shift_gates_lem up _) c.by_constant.ensures (search values)))

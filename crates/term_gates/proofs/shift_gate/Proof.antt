@@ -7,7 +7,7 @@ use Rattle.term_gates.proofs.shift_gate.Tie as tie
 pub shift_gate_spec : {M : Type 1} → statement M
 shift_gate_spec =
     tie.close
-    (tie.spec (λ c κs. search rules) (λ c. shift_kind c.before.before.args.up c.before.before.args.w _ (search rules) c.bits_gate.ensures)
-    (λ c. shift_guard c.before.before.args.up c.before.before.args.w _ (search rules)) (λ c. search rules) (λ c κs. search rules)
-    (λ c. shift_bit c.before.before.before.before.args.up c.before.before.before.before.args.w c.before.before.before.before.args.i (search rules) (search rules) c.moved_gate.ensures)
-    (λ c. shift_past c.before.before.before.args.up c.before.before.before.args.w c.before.before.before.args.i (search rules)))
+    (tie.spec (λ c κs. search rules) (λ c. shift_kind c.args.up c.args.w _ (search rules) c.bits_gate.ensures)
+    (λ c. shift_guard c.args.up c.args.w _ (search rules)) (λ c. search rules) (λ c κs. search rules)
+    (λ c. shift_bit c.args.up c.args.w c.args.i (search rules) (search rules) c.moved_gate.ensures)
+    (λ c. shift_past c.args.up c.args.w c.args.i (search rules)))

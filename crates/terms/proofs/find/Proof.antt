@@ -11,51 +11,51 @@ use Rattle.terms.proofs.Tables.{find_none, find_found, find_next, find_past}
 use Rattle.terms.proofs.find.Statement.{statement}
 use Rattle.terms.proofs.find.Tie as tie
 
-abbrev invariant-loop : tie.invariant-loop
+abbrev invariant-loop : tie.invariant-loop-i
 invariant-loop table count t last low i₀ i = (last ≤ count - 1) × (8 * last ≤ length table - 8) × (find_from i (terms_in table count) t ≡ find_from (floor_of t) (terms_in table count) t)
 
-abbrev decreases-loop : tie.decreases-loop
+abbrev decreases-loop : tie.decreases-loop-i
 decreases-loop table count t last low i₀ i = last - i
 
-abbrev invariant-loop2 : tie.invariant-loop2
+abbrev invariant-loop2 : tie.invariant-loop-i-2
 invariant-loop2 table count t last low i₀ i = find_from i (terms_in table count) t ≡ find_from (floor_of t) (terms_in table count) t
 
-abbrev decreases-loop2 : tie.decreases-loop2
+abbrev decreases-loop2 : tie.decreases-loop-i-2
 decreases-loop2 table count t last low i₀ i = count - i
 
-loop_holds : tie.Need-loop-init invariant-loop decreases-loop invariant-loop2 decreases-loop2
-loop_holds c = (search rules, search rules, rw c.floor.ensures)
+loop_holds : tie.Need-loop-i-init invariant-loop decreases-loop invariant-loop2 decreases-loop2
+loop_holds c = (search rules, search rules, rw c.floor-i.ensures)
 
 -- two records that another low byte tells apart
-loop_again : tie.Need-loop-preserved invariant-loop decreases-loop invariant-loop2 decreases-loop2
+loop_again : tie.Need-loop-i-preserved-then-table-next invariant-loop decreases-loop invariant-loop2 decreases-loop2
 loop_again c =
-    let first = c.before.before in
-    let in-loop = first.before.before.before in
-    let low = in-loop.loop.invariant.0 in
-    let test = first.before.before.loop-test.true in (
+    let first = c in
+    let in-loop = first in
+    let low = in-loop.loop-i.invariant.0 in
+    let test = first.loop-i-test.true in (
       search rules,
       search rules,
-      find_past _ _ _ (in-loop.loop.i + 1)
-          (find_past _ _ _ in-loop.loop.i in-loop.loop.invariant.2 refl (omega arith) first.if1.true (first.before.shared-slice-known2.given (8 * in-loop.loop.i + 2)).fits)
-          refl (omega arith) c.if2.true (c.before.shared-slice-known3.given (8 * (in-loop.loop.i + 1) + 2)).fits,
+      find_past _ _ _ (in-loop.loop-i.i + 1)
+          (find_past _ _ _ in-loop.loop-i.i in-loop.loop-i.invariant.2 refl (omega arith) first.if-table-i.true (first.shared_slice_known-in-loop-i-1.given (8 * in-loop.loop-i.i + 2)).fits)
+          refl (omega arith) c.if-table-next.true (c.shared_slice_known-then-table-i-1.given (8 * (in-loop.loop-i.i + 1) + 2)).fits,
     )
 
 -- one record that is compared
-returns : tie.Need-returns invariant-loop decreases-loop invariant-loop2 decreases-loop2
+returns : tie.Need-returns-then-same invariant-loop decreases-loop invariant-loop2 decreases-loop2
 returns c =
-    let in-loop = c.before.before.before.before.before.before in
-    let low = in-loop.loop.invariant.0 in
-    let test = c.before.before.before.before.before.loop-test.true in
-    find_found _ _ _ in-loop.loop.i in-loop.loop.invariant.2 refl (omega arith) c.before.before.term_at.ensures c.before.same.ensures c.if3.true
+    let in-loop = c in
+    let low = in-loop.loop-i.invariant.0 in
+    let test = c.loop-i-test.true in
+    find_found _ _ _ in-loop.loop-i.i in-loop.loop-i.invariant.2 refl (omega arith) c.term_at.ensures c.same.ensures c.if-same.true
 
-loop_again_2 : tie.Need-loop-preserved-2 invariant-loop decreases-loop invariant-loop2 decreases-loop2
+loop_again_2 : tie.Need-loop-i-preserved invariant-loop decreases-loop invariant-loop2 decreases-loop2
 loop_again_2 c =
-    let in-loop = c.before.before.before.before.before.before in
-    let low = in-loop.loop.invariant.0 in
-    let test = c.before.before.before.before.before.loop-test.true in (
+    let in-loop = c in
+    let low = in-loop.loop-i.invariant.0 in
+    let test = c.loop-i-test.true in (
       search rules,
       search rules,
-      find_next _ _ _ in-loop.loop.i in-loop.loop.invariant.2 refl (omega arith) c.before.before.term_at.ensures c.before.same.ensures c.if3.false,
+      find_next _ _ _ in-loop.loop-i.i in-loop.loop-i.invariant.2 refl (omega arith) c.term_at.ensures c.same.ensures c.if-same.false,
     )
 
 pub find_spec : {M : Type 1} → statement M

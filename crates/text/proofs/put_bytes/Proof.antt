@@ -9,20 +9,20 @@ use Rattle.text.proofs.Adding.{Copied, none_copied, one_copied, all_copied}
 use Rattle.text.proofs.put_bytes.Statement.{statement}
 use Rattle.text.proofs.put_bytes.Tie as tie
 
-abbrev invariant-loop : tie.invariant-loop
+abbrev invariant-loop : tie.invariant-loop-i
 invariant-loop out₀ at bytes i₀ i-end out i = ((i ≤ i-end) × ((i-end ≡ length bytes) × (length out ≡ length out₀))) × Copied out₀ at bytes out i
 
-abbrev decreases-loop : tie.decreases-loop
+abbrev decreases-loop : tie.decreases-loop-i
 decreases-loop out₀ at bytes i₀ i-end out i = i-end - i
 
-loop_holds : tie.Need-loop-init invariant-loop decreases-loop
+loop_holds : tie.Need-loop-i-init invariant-loop decreases-loop
 loop_holds c = (search rules, none_copied)
 
-loop_again : tie.Need-loop-preserved invariant-loop decreases-loop
-loop_again c = (search rules, one_copied c.before.before.loop.invariant.1 (omega arith) (omega arith))
+loop_again : tie.Need-loop-i-preserved invariant-loop decreases-loop
+loop_again c = (search rules, one_copied c.loop-i.invariant.1 (omega arith) (omega arith))
 
 returns : tie.Need-returns invariant-loop decreases-loop
-returns c = all_copied c.before.loop.invariant.1 (omega arith)
+returns c = all_copied c.loop-i.invariant.1 (omega arith)
 
 pub put_bytes_spec : {M : Type 1} → statement M
 put_bytes_spec =

@@ -6,7 +6,7 @@ use Rattle.text.proofs.put_number.Statement.{statement}
 use Rattle.text.proofs.put_number.Tie as tie
 
 returns : tie.Need-returns
-returns c = number_added c.before.before.before.before.before.spell.ensures c.before.before.put_bytes.ensures (omega arith) _
+returns c = number_added c.spell-k.ensures c.put_bytes-end.ensures (omega arith) _
 
 pub put_number_spec : {M : Type 1} → statement M
 put_number_spec =

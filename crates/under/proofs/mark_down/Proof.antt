@@ -9,39 +9,39 @@ use Rattle.under.proofs.Marks.{Onward, onward_start, onward_marked, onward_unmar
 use Rattle.under.proofs.mark_down.Statement.{statement}
 use Rattle.under.proofs.mark_down.Tie as tie
 
-abbrev invariant-loop : tie.invariant-loop
+abbrev invariant-loop : tie.invariant-loop-i
 invariant-loop table count work₀ i₀ work i = ((i ≤ count) × (length work ≡ length work₀)) × Onward table count work₀ i work
 
-abbrev decreases-loop : tie.decreases-loop
+abbrev decreases-loop : tie.decreases-loop-i
 decreases-loop table count work₀ i₀ work i = i
 
-loop_holds : tie.Need-loop-init invariant-loop decreases-loop
+loop_holds : tie.Need-loop-i-init invariant-loop decreases-loop
 loop_holds c = ((search rules, refl), onward_start)
 
-loop_again : tie.Need-loop-preserved invariant-loop decreases-loop
+loop_again : tie.Need-loop-i-preserved-then-is_marked invariant-loop decreases-loop
 loop_again c =
-    let at-loop = c.before.before.before.before.before.before.before.before.before in
-    let tested = c.before.before.before.before.before.before.before.before.loop-test.true in
-    let marked = c.before.before.mark_lower.ensures in (
-      (omega (arith, at-loop.loop.invariant.0.0), marked.long ∙ at-loop.loop.invariant.0.1),
+    let at-loop = c in
+    let tested = c.loop-i-test.true in
+    let marked = c.mark_lower.ensures in (
+      (omega (arith, at-loop.loop-i.invariant.0.0), marked.long ∙ at-loop.loop-i.invariant.0.1),
       onward_marked
-          at-loop.loop.invariant.1
+          at-loop.loop-i.invariant.1
           tested
-          c.before.before.before.before.before.before.is_marked.ensures
-          c.before.before.before.before.before.if1.true
-          c.before.before.before.before.term_at.ensures
+          c.is_marked.ensures
+          c.if-is_marked.true
+          c.term_at.ensures
           marked,
     )
 
-loop_again_2 : tie.Need-loop-preserved-2 invariant-loop decreases-loop
+loop_again_2 : tie.Need-loop-i-preserved invariant-loop decreases-loop
 loop_again_2 c =
-    let at-loop = c.before.before.before.before in (
-      (omega (arith, at-loop.loop.invariant.0.0), at-loop.loop.invariant.0.1),
-      onward_unmarked at-loop.loop.invariant.1 c.before.before.before.loop-test.true c.before.is_marked.ensures c.if1.false,
+    let at-loop = c in (
+      (omega (arith, at-loop.loop-i.invariant.0.0), at-loop.loop-i.invariant.0.1),
+      onward_unmarked at-loop.loop-i.invariant.1 c.loop-i-test.true c.is_marked.ensures c.if-is_marked.false,
     )
 
 returns : tie.Need-returns invariant-loop decreases-loop
-returns c = onward_end (omega (arith, c.loop-test.false)) c.before.loop.invariant.0.1 c.before.loop.invariant.1
+returns c = onward_end (omega (arith, c.loop-i-test.false)) c.loop-i.invariant.0.1 c.loop-i.invariant.1
 
 pub mark_down_spec : {M : Type 1} → statement M
 mark_down_spec =

@@ -6,10 +6,10 @@ use Rattle.under.proofs.mark_result.Tie as tie
 
 returns : tie.Need-returns
 returns c =
-    let third = c.before.before.mark3.ensures in
-    let second = c.before.before.before.before.before.before.before.mark2.ensures in
-    let first = c.before.before.before.before.before.before.before.before.before.before.before.mark.ensures in
-    let wiped = c.before.before.before.before.before.before.before.before.before.before.before.before.before.before.before.wipe.ensures in
+    let third = c.mark-3.ensures in
+    let second = c.mark-2.ensures in
+    let first = c.mark.ensures in
+    let wiped = c.wipe.ensures in
     mark_named _ _ wiped first second third
 
 pub mark_result_spec : {M : Type 1} → statement M

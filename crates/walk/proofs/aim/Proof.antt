@@ -5,15 +5,15 @@ use Rattle.terms.proofs.Gives.{steps}
 use Rattle.walk.proofs.aim.Statement.{statement}
 use Rattle.walk.proofs.aim.Tie as tie
 
-returns : tie.Need-returns
+returns : tie.Need-returns-then-gathered-ne0
 unfolding aim_of
 returns c = (search steps depth 12, search rules)
 
-returns_2 : tie.Need-returns-2
+returns_2 : tie.Need-returns-then-any-ne0
 unfolding aim_of
 returns_2 c = (search steps depth 12, search rules)
 
-returns_3 : tie.Need-returns-3
+returns_3 : tie.Need-returns
 unfolding aim_of
 returns_3 c = (search steps depth 12, search rules)
 

@@ -14,16 +14,16 @@ use Rattle.walk.specs.Leaves.{no_leaf}
 use Rattle.walk.proofs.any_target.Statement.{statement}
 use Rattle.walk.proofs.any_target.Tie as tie
 
-abbrev invariant-loop : tie.invariant-loop
+abbrev invariant-loop : tie.invariant-loop-i
 invariant-loop table₀ count leaves n guard₀ made₀ i₀ table guard made i = (length table ≡ length table₀) × Leads (each or_target_of false_number (from no_leaf leaves 0 n)) table₀ made₀ 0 (each or_target_of guard (from no_leaf leaves i (n - i))) table made
 
-abbrev decreases-loop : tie.decreases-loop
+abbrev decreases-loop : tie.decreases-loop-i
 decreases-loop table₀ count leaves n guard₀ made₀ i₀ table guard made i = n - i
 
-loop_holds : tie.Need-loop-init invariant-loop decreases-loop
+loop_holds : tie.Need-loop-i-init invariant-loop decreases-loop
 loop_holds c = (search rules, rw sub-zero (leads_start _ _ _))
 
-loop_again : tie.Need-loop-preserved invariant-loop decreases-loop
+loop_again : tie.Need-loop-i-preserved invariant-loop decreases-loop
 loop_again c = (search rules, search each_next)
 
 pub any_target_spec : {M : Type 1} → statement M

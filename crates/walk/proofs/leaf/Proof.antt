@@ -4,10 +4,10 @@ use Rattle.walk.proofs.Leaves.{leaf_new, leaf_last}
 use Rattle.walk.proofs.leaf.Statement.{statement}
 use Rattle.walk.proofs.leaf.Tie as tie
 
-returns : tie.Need-returns
+returns : tie.Need-returns-then-have-lt-LEAF_LIMIT
 returns c = record { gives = search leaf_new; few = search rules }
 
-returns_2 : tie.Need-returns-2
+returns_2 : tie.Need-returns
 returns_2 c = record { gives = search leaf_last; few = search rules }
 
 pub leaf_spec : {M : Type 1} → statement M

@@ -5,8 +5,8 @@ use Rattle.walk.proofs.Leaves.{past_end}
 use Rattle.walk.proofs.leaf_of.Statement.{statement}
 use Rattle.walk.proofs.leaf_of.Tie as tie
 
-returns_2 : tie.Need-returns-2
-returns_2 c = past_end c.before.args.t1 c.before.args.i (omega (arith, c.before.well_formed.0.1.0.1))
+returns_2 : tie.Need-returns-else-i-lt-LEAF_LIMIT
+returns_2 c = past_end c.args.leaves c.args.i (omega (arith, c.well_formed))
 
 pub leaf_of_spec : {M : Type 1} → statement M
 leaf_of_spec = tie.close (tie.spec (λ c. search rules) (λ c. search rules) (λ c. search rules) returns_2)

@@ -6,19 +6,19 @@ use Rattle.walk.proofs.Leaves.{push_leaf}
 use Rattle.walk.proofs.push.Statement.{statement}
 use Rattle.walk.proofs.push.Tie as tie
 
-slice_write_leaves_2 : tie.Need-slice-write-leaves-2
+slice_write_leaves_2 : tie.Need-bounds-leaves-at-2
 slice_write_leaves_2 c = simp length-set (omega arith)
 
-slice_write_leaves_3 : tie.Need-slice-write-leaves-3
+slice_write_leaves_3 : tie.Need-bounds-leaves-at-3
 slice_write_leaves_3 c = simp length-set (omega arith)
 
-slice_write_leaves_4 : tie.Need-slice-write-leaves-4
+slice_write_leaves_4 : tie.Need-bounds-leaves-at-4
 slice_write_leaves_4 c = simp length-set (omega arith)
 
-slice_write_leaves_5 : tie.Need-slice-write-leaves-5
+slice_write_leaves_5 : tie.Need-bounds-leaves-at-5
 slice_write_leaves_5 c = simp length-set (omega arith)
 
-slice_write_leaves_6 : tie.Need-slice-write-leaves-6
+slice_write_leaves_6 : tie.Need-bounds-leaves-at-6
 slice_write_leaves_6 c = simp length-set (omega arith)
 
 pub push_spec : {M : Type 1} → statement M

@@ -8,7 +8,7 @@ use Rattle.witness.proofs.passed_over.Tie as tie
 returns : tie.Need-returns
 returns c =
     let asked = c.before.before.before.before.possible in
-    (λ e. asked.ensures.0 (not-true asked.result e), asked.ensures.1)
+    (λ e. asked.ensures.0 e, asked.ensures.1)
 
 returns_2 : tie.Need-returns-2
 returns_2 c = (λ e. absurd (false≢true e), c.before.before.before.before.before.requires.0.under)

@@ -11,4 +11,4 @@ pub measure_spec : {M : Type 1} → statement M
 measure_spec =
     tie.close
     (tie.spec (λ c. search rules) (λ c κs. search rules)
-    (λ c. let e = measured c.before.put_text.ensures.0 c.before.put_text.ensures.1 in (e, subst (λ n. n ≤ most_text) (sym e) c.before.put_text.ensures.1)))
+    (λ c. let e = measured c.put_text.ensures.0 c.put_text.ensures.1 in (e, subst (λ n. n ≤ most_text) (sym e) c.put_text.ensures.1)))

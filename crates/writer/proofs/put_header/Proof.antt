@@ -8,5 +8,5 @@ use Rattle.writer.proofs.put_header.Tie as tie
 pub put_header_spec : {M : Type 1} → statement M
 put_header_spec =
     tie.close
-    (tie.spec (λ c. search rules) (λ c κs. search rules) (λ c κs. search rules) (λ c κs. search rules) (λ c. search rules)
-    (λ c. said (onward c.before.before.before.before.before.before.before.before.before.before.put_bytes.ensures (onward c.before.before.before.before.before.before.put_before.ensures c.before.before.put_before2.ensures)) (header_text_lem _ _)))
+    (tie.spec (λ c κs. search rules) (λ c κs. search rules) (λ c κs. search rules) (λ c. search rules)
+    (λ c. said (onward c.put_bytes-word.ensures (onward c.put_before-end.ensures c.put_before.ensures)) (header_text_lem _ _)))

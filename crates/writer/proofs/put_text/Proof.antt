@@ -12,7 +12,7 @@ put_text_spec =
     (tie.spec (λ c κs. search rules) (λ c. search rules) (λ c. search rules) (λ c. search rules) (λ c. search rules) (λ c κs. search rules) (λ c. search rules) (λ c κs. search rules)
     (λ c κs. search rules) (λ c κs. search rules) (λ c. search rules)
     (λ c. (
-      said (onward c.before.before.before.before.before.before.before.before.before.before.put_header.ensures (onward c.before.before.before.before.before.before.put_terms.ensures c.before.before.put_goal.ensures))
-          (whole_text _ _ _ _ c.before.before.before.before.before.before.before.before.before.before.before.before.before.before.before.add_up.ensures c.before.before.before.before.before.before.before.before.before.before.before.before.goal_count.ensures.0 refl refl),
-      text_short _ _ _ _ (search rules) c.before.before.before.before.before.before.before.before.before.before.before.before.before.before.before.add_up.ensures (search rules) c.before.before.before.before.before.before.before.before.before.before.before.before.goal_count.ensures.0 c.before.before.before.before.before.before.before.before.before.before.before.before.goal_count.ensures.1 c.before.before.before.before.before.before.before.before.before.before.before.before.goal_count.ensures.2,
+      said (onward c.put_header-body.ensures (onward c.put_terms-end.ensures c.put_goal.ensures))
+          (whole_text _ _ _ _ c.add_up-n.ensures c.goal_count.ensures.0 refl refl),
+      text_short _ _ _ _ (search rules) c.add_up-n.ensures (search rules) c.goal_count.ensures.0 c.goal_count.ensures.1 c.goal_count.ensures.2,
     )))

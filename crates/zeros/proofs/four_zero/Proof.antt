@@ -12,10 +12,10 @@ use Rattle.zeros.proofs.Zeros.{four_end, four_next}
 use Rattle.zeros.proofs.four_zero.Statement.{statement}
 use Rattle.zeros.proofs.four_zero.Tie as tie
 
-abbrev invariant-loop : tie.invariant-loop
+abbrev invariant-loop : tie.invariant-loop-i
 invariant-loop x y z w seen₀ i₀ seen i = pick (eqb seen 0) (four_zero (drop i x) (drop i y) (drop i z) (drop i w)) false ≡ four_zero x y z w
 
-abbrev decreases-loop : tie.decreases-loop
+abbrev decreases-loop : tie.decreases-loop-i
 decreases-loop x y z w seen₀ i₀ seen i = length x - i
 
 pub four_zero_spec : {M : Type 1} → statement M

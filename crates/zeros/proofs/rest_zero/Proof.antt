@@ -10,10 +10,10 @@ use Rattle.zeros.proofs.Zeros.{rest_end, rest_next, rest_miss}
 use Rattle.zeros.proofs.rest_zero.Statement.{statement}
 use Rattle.zeros.proofs.rest_zero.Tie as tie
 
-abbrev invariant-loop : tie.invariant-loop
+abbrev invariant-loop : tie.invariant-loop-i
 invariant-loop s at i₀ i = every is_zero (drop i s) ≡ every is_zero (drop at s)
 
-abbrev decreases-loop : tie.decreases-loop
+abbrev decreases-loop : tie.decreases-loop-i
 decreases-loop s at i₀ i = length s - i
 
 pub rest_zero_spec : {M : Type 1} → statement M

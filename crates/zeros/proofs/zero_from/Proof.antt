@@ -8,16 +8,16 @@ use Rattle.zeros.proofs.Zeros.{rest_end, parts_long, parts_on, parts_miss}
 use Rattle.zeros.proofs.zero_from.Statement.{statement}
 use Rattle.zeros.proofs.zero_from.Tie as tie
 
-returns : tie.Need-returns
-returns c = rest_end _ _ refl c.if1.true
+returns : tie.Need-returns-then-s-at
+returns c = rest_end _ _ refl c.if-s-at.true
 
 four_zero_requires : tie.Need-four_zero-requires
 four_zero_requires c κs =
-    let known = c.before.before.before.before in
-    let s = known.before.before.args.s.now in
-    let p = known.before.before.args.at in
+    let known = c in
+    let s = known.args.s.now in
+    let p = known.args.at in
     let q = (length s - p) / 4 in
-    let h : p < length s = known.if1.false in (
+    let h : p < length s = known.if-s-at.false in (
       parts_long s (p + q) (p + q + q) p (p + q) (omega arith) (omega arith) (omega arith) (omega arith) (omega arith),
       (
         parts_long s (p + q + q) (p + q + q + q) p (p + q) (omega arith) (omega arith) (omega arith) (omega arith) (omega arith),
@@ -25,23 +25,23 @@ four_zero_requires c κs =
       ),
     )
 
-returns_2 : tie.Need-returns-2
+returns_2 : tie.Need-returns-then-four_zero
 returns_2 c =
-    let start = c.before.before.before.before.before.before.before.before.before in
+    let start = c in
     let s = start.args.s.now in
     let p = start.args.at in
     let q = (length s - p) / 4 in
     parts_on s p (p + q) (p + q + q) (p + q + q + q) (p + q + q + q + q) (omega arith) (omega arith) (omega arith) (omega arith)
-    c.before.before.four_zero.ensures c.before.if2.true c.rest_zero.ensures
+    c.four_zero.ensures c.if-four_zero.true c.rest_zero.ensures
 
-returns_3 : tie.Need-returns-3
+returns_3 : tie.Need-returns
 returns_3 c =
-    let start = c.before.before.before.before.before.before.before.before in
+    let start = c in
     let s = start.args.s.now in
     let p = start.args.at in
     let q = (length s - p) / 4 in
     parts_miss s p (p + q) (p + q + q) (p + q + q + q) (p + q + q + q + q) (omega arith) (omega arith) (omega arith) (omega arith)
-    c.before.four_zero.ensures c.if2.false
+    c.four_zero.ensures c.if-four_zero.false
 
 pub zero_from_spec : {M : Type 1} → statement M
 zero_from_spec =
