@@ -1,4 +1,4 @@
-/* The desk's library, target/staticlib/libdesk.a, which `rt staticlib desk` proves and writes (x86-64 Linux).
+/* The desk's library, target/staticlib/libdesk.a, which `tools/build` proves and writes (x86-64 Linux).
  *
  * A slice is lent as an address and a length: of bytes, but for lists of numbers, whose lengths count numbers and not bytes:
  * a work list and the answers for bales hold desk_place, the numbers of bales desk_word, a list of reports uint32_t and the

@@ -1,4 +1,4 @@
-//! Links the desk's library, which `rt staticlib desk` makes.
+//! Links the desk's library, which `tools/build` makes.
 use std::path::Path;
 
 fn main() {

@@ -48,7 +48,7 @@ fn printed(bytes: &[u8]) -> String {
         .stdin(Stdio::piped())
         .stdout(Stdio::piped())
         .spawn()
-        .expect("target/bin/print, which `rt check print` makes");
+        .expect("target/bin/print, which `tools/build` makes");
     let mut input = child.stdin.take().expect("a pipe");
     // the program reads no more than it needs, so that the end of a long input may find no reader
     let _ = input.write_all(bytes);

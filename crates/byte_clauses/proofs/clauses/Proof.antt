@@ -7,9 +7,9 @@ use Rattle.byte_clauses.proofs.clauses.Tie as tie
 pub clauses_spec : {M : Type 1} → statement M
 clauses_spec =
     tie.close
-    (tie.spec (λ c κs. search rules) (λ c. clauses_unformed_lem c.before.before.before.before.before.before.before.before.args.session.now c.before.before.before.before.before.before.before.before.args.table.now c.before.before.before.before.before.before.before.before.args.res.now c.before.before.before.before.before.before.before.before.args.goal.now c.before.before.before.before.before.before.before.before.args.text.now c.before.before.before.before.before.before.before.before.args.length.now c.before.clauses_unformed.ensures (search rules))
+    (tie.spec (λ c κs. search rules) (λ c. clauses_unformed_lem c.args.session.now c.args.table.now c.args.res.now c.args.goal.now c.args.text.now c.args.length.now c.clauses_unformed-unformed.ensures (search rules))
     (λ c κs. search rules) (λ c κs. search rules) (λ c κs. search rules) (λ c κs. search rules) (λ c. search rules)
-    (λ c. clauses_misfit c.before.before.before.before.before.before.before.before.before.before.before.before.before.before.before.before.before.args.session.now c.before.before.before.before.before.before.before.before.before.before.before.before.before.before.before.before.before.args.table.now c.before.before.before.before.before.before.before.before.before.before.before.before.before.before.before.before.before.args.res.now c.before.before.before.before.before.before.before.before.before.before.before.before.before.before.before.before.before.args.goal.now c.before.before.before.before.before.before.before.before.before.before.before.before.before.before.before.before.before.args.text.now c.before.before.before.before.before.before.before.before.before.before.before.before.before.before.before.before.before.args.length.now c.before.before.before.before.before.before.before.before.before.before.clauses_unformed.ensures (search rules) c.before.before.before.before.before.before.before.before.session_in.ensures c.before.before.before.before.before.before.before.result_in.ensures c.before.before.before.before.before.before.goal_in.ensures c.before.before.before.before.write.ensures (search rules)) (λ c. search rules)
-    (λ c. clauses_result c.before.before.before.before.before.before.before.before.before.before.before.before.before.before.before.before.before.before.before.args.session.now c.before.before.before.before.before.before.before.before.before.before.before.before.before.before.before.before.before.before.before.args.table.now c.before.before.before.before.before.before.before.before.before.before.before.before.before.before.before.before.before.before.before.args.res.now c.before.before.before.before.before.before.before.before.before.before.before.before.before.before.before.before.before.before.before.args.goal.now c.before.before.before.before.before.before.before.before.before.before.before.before.before.before.before.before.before.before.before.args.text.now c.before.before.before.before.before.before.before.before.before.before.before.before.before.before.before.before.before.before.before.args.length.now c.before.before.before.before.before.before.before.before.before.before.before.before.clauses_unformed.ensures (search rules) c.before.before.before.before.before.before.before.before.before.before.session_in.ensures c.before.before.before.before.before.before.before.before.before.result_in.ensures c.before.before.before.before.before.before.before.before.goal_in.ensures c.before.before.before.before.before.before.write.ensures (search rules))
-    (λ c. let one = formed_one _ _ _ _ c.before.before.before.before.before.before.before.before.before.before.before.before.clauses_unformed.ensures (search rules) in search rules) (λ c. search rules) (λ c. search rules)
-    (λ c. clauses_said c.before.before.before.before.before.before.before.before.before.before.before.before.before.before.before.before.before.before.before.args.session.now c.before.before.before.before.before.before.before.before.before.before.before.before.before.before.before.before.before.before.before.args.table.now c.before.before.before.before.before.before.before.before.before.before.before.before.before.before.before.before.before.before.before.args.res.now c.before.before.before.before.before.before.before.before.before.before.before.before.before.before.before.before.before.before.before.args.goal.now c.before.before.before.before.before.before.before.before.before.before.before.before.before.before.before.before.before.before.before.args.text.now c.before.before.before.before.before.before.before.before.before.before.before.before.before.before.before.before.before.before.before.args.length.now c.before.before.before.before.before.before.before.before.before.before.before.before.clauses_unformed.ensures (search rules) c.before.before.before.before.before.before.before.before.before.before.session_in.ensures c.before.before.before.before.before.before.before.before.before.result_in.ensures c.before.before.before.before.before.before.before.before.goal_in.ensures c.before.before.before.before.before.before.write.ensures (search rules) (search rules) (search rules)))
+    (λ c. clauses_misfit c.args.session.now c.args.table.now c.args.res.now c.args.goal.now c.args.text.now c.args.length.now c.clauses_unformed-unformed.ensures (search rules) c.session_in.ensures c.result_in.ensures c.goal_in.ensures c.write-written.ensures (search rules)) (λ c. search rules)
+    (λ c. clauses_result c.args.session.now c.args.table.now c.args.res.now c.args.goal.now c.args.text.now c.args.length.now c.clauses_unformed-unformed.ensures (search rules) c.session_in.ensures c.result_in.ensures c.goal_in.ensures c.write-written.ensures (search rules))
+    (λ c. let one = formed_one _ _ _ _ c.clauses_unformed-unformed.ensures (search rules) in search rules) (λ c. search rules) (λ c. search rules)
+    (λ c. clauses_said c.args.session.now c.args.table.now c.args.res.now c.args.goal.now c.args.text.now c.args.length.now c.clauses_unformed-unformed.ensures (search rules) c.session_in.ensures c.result_in.ensures c.goal_in.ensures c.write-written.ensures (search rules) (search rules) (search rules)))

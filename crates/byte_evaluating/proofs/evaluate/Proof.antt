@@ -4,22 +4,22 @@ use Rattle.byte_evaluating.proofs.Answers.{evaluate_length, evaluate_place, eval
 use Rattle.byte_evaluating.proofs.evaluate.Statement.{statement}
 use Rattle.byte_evaluating.proofs.evaluate.Tie as tie
 
-returns_4 : tie.Need-returns-4
+returns_4 : tie.Need-returns-then-refusal-ne0
 returns_4 c =
-    let entered = c.before.before.before.before.before.before.before in
-    let formed = entered.before.before.before.before in
-    let sized = formed.before.before.before in
-    evaluate_refused _ _ _ _ _ sized.before.if1.false sized.if2.false formed.before.session_formed.ensures formed.if3.true entered.before.before.session_in.ensures entered.enter_once.ensures
-    c.before.before.before.put_answer.ensures c.if4.true
+    let entered = c in
+    let formed = entered in
+    let sized = formed in
+    evaluate_refused _ _ _ _ _ sized.if-session-ne-SESSION.false sized.if-answer-ne-ANSWER.false formed.session_formed.ensures formed.if-session_formed.true entered.session_in.ensures entered.enter_once-entered.ensures
+    c.put_answer-refusal.ensures c.if-refusal-ne0.true
 
-returns_5 : tie.Need-returns-5
+returns_5 : tie.Need-returns
 returns_5 c =
-    let answered = c.before.before.before.before.before.before.before.before in
-    let entered = answered.before.before.before.before in
-    let formed = entered.before.before.before.before in
-    let sized = formed.before.before.before in
-    evaluate_accepted _ _ _ _ _ sized.before.if1.false sized.if2.false formed.before.session_formed.ensures formed.if3.true entered.before.before.session_in.ensures entered.enter_once.ensures
-    answered.put_answer.ensures c.before.before.before.before.before.if4.false c.before.before.put_session.ensures.0 c.before.before.put_session.ensures.1
+    let answered = c in
+    let entered = answered in
+    let formed = entered in
+    let sized = formed in
+    evaluate_accepted _ _ _ _ _ sized.if-session-ne-SESSION.false sized.if-answer-ne-ANSWER.false formed.session_formed.ensures formed.if-session_formed.true entered.session_in.ensures entered.enter_once-entered.ensures
+    answered.put_answer-refusal.ensures c.if-refusal-ne0.false c.put_session.ensures.0 c.put_session.ensures.1
 
 pub evaluate_spec : {M : Type 1} → statement M
 evaluate_spec =
