@@ -10,7 +10,7 @@ use lib.Dec.{eqb, ltb}
 use lib.ListN.{length, set, take, length-set, get_or-eq_default}
 use lib.Seq.{get_or-set_same, get_or-set_other, get_or-take, length-take-le}
 use borrow.Author.Tests.{eqb-true, eqb-false, ltb-true, ltb-false, le-leb}
-use Rattle.notation.specs.Notation.{with, if◌then◌else◌}
+use Rattle.notation.specs.Notation.{with, when◌then◌else◌}
 use Rattle.semantics.specs.declared.Term.{Term}
 use Rattle.semantics.specs.declared.Goal.{Goal}
 use Rattle.semantics.specs.declared.Result.{Result}
@@ -38,7 +38,7 @@ use Rattle.boxes.specs.Boxes.{Inside, place_range, range_held, Ranges, Ready, Ra
 
 -- past the last place nothing is marked
 held_past : (m tops : List ℕ) (k : ℕ) → length m ≤ k → open_report ≡ range_held m tops k
-unfolding place_range with if◌then◌else◌
+unfolding place_range with when◌then◌else◌
 held_past m tops k h = rw (get_or-eq_default m 0 h)
 
 pub past_as : (m tops : List ℕ) (k : ℕ) → length m ≤ k → {r : Report} → r ≡ open_report → r ≡ range_held m tops k
@@ -50,14 +50,14 @@ held_below m tops i k h = rw (get_or-take i m k 0 h)
 
 -- a marked place with a reading in it
 held_put : (m tops : List ℕ) (k : ℕ) (r : Report) (n : ℕ) → k < length m → k < length tops → unpacked_of n ≡ reading_of r.sort r.low → mark_place ≤ n → range_held (set m k n) (set tops k r.high) k ≡ r
-unfolding place_range with if◌then◌else◌
+unfolding place_range with when◌then◌else◌
 held_put m tops k r n h l e p = rw (get_or-set_same m k n 0 h, get_or-set_same tops k r.high 0 l, le-leb mark_place n p, e)
 
 held_other : (m tops : List ℕ) (i k n h : ℕ) → (k ≡ i → ⊥) → range_held (set m i n) (set tops i h) k ≡ range_held m tops k
 held_other m tops i k n h d = rw (get_or-set_other m i k n 0 d, get_or-set_other tops i k h 0 d)
 
 held_open : (m tops : List ℕ) (k : ℕ) → mark_in m k ≡ false → range_held m tops k ≡ open_report
-unfolding place_range with if◌then◌else◌
+unfolding place_range with when◌then◌else◌
 held_open m tops k e = rw e
 
 -- ---- what is known of the term i

@@ -1,6 +1,6 @@
 -- What the code promises of the ranges in a box. Assumes nothing.
 use Rattle.std.specs.Prelude.{◌≡◌, true, false, List, ℕ, ◌<◌, ◌≤◌, leb, length, get_or}
-use Rattle.notation.specs.Notation.{with, if◌then◌else◌}
+use Rattle.notation.specs.Notation.{with, when◌then◌else◌}
 use Rattle.semantics.specs.declared.Term.{Term}
 use Rattle.semantics.specs.declared.Goal.{Goal}
 use Rattle.semantics.specs.declared.Result.{Result}
@@ -26,7 +26,7 @@ pub record Inside (lows highs ns : List ℕ) : Type 0 where
 
 -- the range that a place holds with a high: a marked one its sort and its low; open where it is not marked
 unfoldable pub place_range : ℕ → ℕ → Report
-place_range n h = with (leb mark_place n) λ b. if b then (with (unpacked_of n) λ v. report_of v.sort v.number h) else open_report
+place_range n h = with (leb mark_place n) λ b. when b then (with (unpacked_of n) λ v. report_of v.sort v.number h) else open_report
 
 -- the range that two lists hold for term k
 abbrev pub range_held : List ℕ → List ℕ → ℕ → Report

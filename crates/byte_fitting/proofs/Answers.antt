@@ -5,7 +5,7 @@ use mathlib.Core.List.{List}
 use Prim.Native.Nat.{ℕ}
 use lib.ListN.{length}
 use borrow.Author.Tests.{eq-eqb, ne_eqb}
-use Rattle.notation.specs.Notation.{if◌then◌else◌, unless◌then◌else◌}
+use Rattle.notation.specs.Notation.{when◌then◌else◌, unless◌then◌else◌}
 use Rattle.semantics.specs.declared.Session.{Session}
 use Rattle.semantics.specs.Numbers.{misfit}
 use Rattle.semantics.specs.Fits.{fits_of}
@@ -19,14 +19,14 @@ module _ (session table : List ℕ) where
 
   module _ (l : length session ≡ session_length) {b : Bool} (eb : b ≡ session_formed session) where
     pub fits_unformed : b ≡ false → misfit ≡ desk_fits session table
-    unfolding desk_fits if◌then◌else◌ unless◌then◌else◌
+    unfolding desk_fits when◌then◌else◌ unless◌then◌else◌
     fits_unformed h = rw (eq-eqb (length session) session_length l, ← eb, h)
 
     module _ (h : b ≡ true) {x : Session} (ex : x ≡ session_in session) {d : Bool} (ed : d ≡ fits_of x table) where
       pub fits_not : d ≡ false → misfit ≡ desk_fits session table
-      unfolding desk_fits if◌then◌else◌ unless◌then◌else◌
+      unfolding desk_fits when◌then◌else◌ unless◌then◌else◌
       fits_not k = rw (eq-eqb (length session) session_length l, ← eb, h, ← ex, ← ed, k)
 
       pub fits_so : d ≡ true → 0 ≡ desk_fits session table
-      unfolding desk_fits if◌then◌else◌ unless◌then◌else◌
+      unfolding desk_fits when◌then◌else◌ unless◌then◌else◌
       fits_so k = rw (eq-eqb (length session) session_length l, ← eb, h, ← ex, ← ed, k)

@@ -4,7 +4,7 @@ use mathlib.Core.Bool.{true, false}
 use mathlib.Core.List.{List}
 use Prim.Native.Nat.{ℕ}
 use native.Mathlib.Omega.{arith}
-use Rattle.notation.specs.Notation.{if◌then◌else◌, if◌equals◌then◌else◌, unless◌then◌else◌}
+use Rattle.notation.specs.Notation.{when◌then◌else◌, if◌equals◌then◌else◌, unless◌then◌else◌}
 use Rattle.semantics.specs.declared.Session.{Session}
 use Rattle.semantics.specs.declared.Outcome.TheVariants.{Refused}
 use Rattle.semantics.specs.Numbers.{bad_result}
@@ -21,5 +21,5 @@ module _ (x : Session) (s : List ℕ) (fits : fits_of x s ≡ true) where
   no_truth = let l = few_terms x s fits in rw (← at_high s x.count no_term (omega arith))
 
   pub unformed_refused : (numbers result work : List ℕ) → numbers_taken x.inputs numbers ≡ true → result_formed result ≡ false → (read_of x s numbers (result_in result) work).0 ≡ Refused bad_result
-  unfolding read_of read_outcome result_taken result_in if◌then◌else◌ unless◌then◌else◌
+  unfolding read_of read_outcome result_taken result_in when◌then◌else◌ unless◌then◌else◌
   unformed_refused numbers result work taken broken = rw (fits, taken, broken, no_truth)

@@ -7,7 +7,7 @@ use native.Mathlib.Omega.{arith}
 use lib.Dec.{eqb, leb}
 use lib.ListN.{length, get_or, take}
 use borrow.Author.Tests.{eqb-true, eqb-false, leb-true}
-use Rattle.notation.specs.Notation.{pick, if◌then◌else◌, if◌equals◌then◌else◌, every}
+use Rattle.notation.specs.Notation.{pick, when◌then◌else◌, if◌equals◌then◌else◌, every}
 use Rattle.semantics.specs.declared.Term.{Term}
 use Rattle.semantics.specs.declared.Input.{Input}
 use Rattle.semantics.specs.declared.Session.{Session}
@@ -60,7 +60,7 @@ input_free xs i x l e h = go (eqb x.kind constant_truth) (eqb x.kind constant_wo
 -- the inputs ys are those of xs from i on
 inputs_free : (xs : List Input) (i : ℕ) (ys : List Input) → i + length ys ≡ length xs → ((j : ℕ) → get_or xs (i + j) no_input ≡ get_or ys j no_input) → every input_taken ys ≡ true
     → EachIn (λ j x. Free xs (input_term j x)) i ys
-unfolding every if◌then◌else◌
+unfolding every when◌then◌else◌
 inputs_free xs i [] l e h = tt
 inputs_free xs i (y ∷ ys) l e h =
     by_test (input_taken y) (every input_taken ys) false h (λ p q. (
@@ -91,7 +91,7 @@ none_free xs t h = bound xs t (λ k. never (rw k at h)) (λ k. never (rw k at h)
 
 -- the terms past the first k, up to c
 past_free : (xs : List Input) (s : List ℕ) (k c m : ℕ) → k + m ≡ c → every no_free (take m (terms_in s c)) ≡ true → All (Free xs) (terms_in s k) → All (Free xs) (terms_in s c)
-unfolding every if◌then◌else◌ terms_in
+unfolding every when◌then◌else◌ terms_in
 past_free xs s k c zero e h a = let i : k ≡ c = omega arith in subst (λ n. All (Free xs) (terms_in s n)) i a
 past_free xs s k zero (suc m) e h a = absurd (omega arith)
 past_free xs s k (suc c) (suc m) e h a =

@@ -5,7 +5,7 @@ use Prim.Native.Nat.{ℕ, ◌+◌, ◌<◌}
 use native.Mathlib.Omega.{arith}
 use lib.Dec.{ltb}
 use borrow.Author.Tests.{ltb-true, ltb-false}
-use Rattle.notation.specs.Notation.{pick, with, if◌then◌else◌, if◌equals◌then◌else◌, if◌below◌then◌else◌}
+use Rattle.notation.specs.Notation.{pick, with, when◌then◌else◌, if◌equals◌then◌else◌, if◌below◌then◌else◌}
 use Rattle.words.specs.Words.{width, word_limit, last_word, sum_of, difference_of}
 use Rattle.words.proofs.Words.{wrapped, sum_exact, difference_exact}
 use Rattle.operators.specs.Operators.{row_of, operands_of, gives_truth_of, operate_of}
@@ -22,18 +22,18 @@ use Rattle.certainty.proofs.Covers.{Covers, a_truth, a_word, any_word, any_truth
 
 -- a word that is worked out, or 0
 result_word : (op w : ℕ) → gives_truth_of op ≡ false → w < word_limit → Covers (result_reading op w) all_words
-unfolding result_reading with if◌then◌else◌
+unfolding result_reading with when◌then◌else◌
 result_word op w h l = rw h (any_word w l)
 
 -- a truth that is worked out, or false
 result_truth : (op w : ℕ) → gives_truth_of op ≡ true → w < 2 → Covers (result_reading op w) both_truths
-unfolding result_reading with if◌then◌else◌
+unfolding result_reading with when◌then◌else◌
 result_truth op w h l = rw h (a_truth {n = w} {l = 0} {h = 1} (omega arith) (omega arith) (omega arith))
 
 module _ (op : ℕ) (v w : Reading) (p : v.number < word_limit) (q : w.number < word_limit) where
   -- a code that gives words
   word_covers : gives_truth_of op ≡ false → Covers (operation_reading op v w) all_words
-  unfolding operation_reading with if◌then◌else◌
+  unfolding operation_reading with when◌then◌else◌
   word_covers h = go (operands_are_words op v w)
     where
       go : (b : Bool) → Covers (pick b (result_reading op (operate_of op v.number w.number)) (result_reading op 0)) all_words
@@ -42,7 +42,7 @@ module _ (op : ℕ) (v w : Reading) (p : v.number < word_limit) (q : w.number < 
 
   -- a code that gives truths
   pub truth_covers : gives_truth_of op ≡ true → Covers (operation_reading op v w) both_truths
-  unfolding operation_reading with if◌then◌else◌
+  unfolding operation_reading with when◌then◌else◌
   truth_covers h = go (operands_are_words op v w)
     where
       go : (b : Bool) → Covers (pick b (result_reading op (operate_of op v.number w.number)) (result_reading op 0)) both_truths
@@ -51,7 +51,7 @@ module _ (op : ℕ) (v w : Reading) (p : v.number < word_limit) (q : w.number < 
 
   -- "any other word operator reports 0 to 65,535"; "every other truth reports both"
   pub other_covers : Covers (operation_reading op v w) (other_report op)
-  unfolding other_report with if◌then◌else◌
+  unfolding other_report with when◌then◌else◌
   other_covers = go (gives_truth_of op) refl
     where
       go : (b : Bool) → gives_truth_of op ≡ b → Covers (operation_reading op v w) (pick b both_truths all_words)
@@ -65,12 +65,12 @@ gives_add = refl
 
 -- of what are not both spans
 no_sum : (x y : Report) → are_spans x y ≡ false → sum_report x y ≡ all_words
-unfolding sum_report with if◌then◌else◌
+unfolding sum_report with when◌then◌else◌
 no_sum x y e = rw e
 
 -- of spans: where the highs' sum is a word, no sum of two numbers in them wraps
 pub sum_covers : {v w : Reading} {x y : Report} → Two v w x y → Covers (operation_reading add_code v w) (sum_report x y)
-unfolding operation_reading operands_are_words is_word operands_of row_of result_reading gives_truth_of operate_of sum_report are_spans with if◌then◌else◌ if◌equals◌then◌else◌ if◌below◌then◌else◌
+unfolding operation_reading operands_are_words is_word operands_of row_of result_reading gives_truth_of operate_of sum_report are_spans with when◌then◌else◌ if◌equals◌then◌else◌ if◌below◌then◌else◌
 sum_covers (spans {n = n} {l = l} {h = h} {m = m} {k = k} {j = j} a b c d e f) = go (ltb last_word (h + j)) refl
   where
     go : (t : Bool) → ltb last_word (h + j) ≡ t → Covers (reading_of word_term (sum_of width n m)) (pick t all_words (word_report (sum_of width l k) (sum_of width h j)))
@@ -91,12 +91,12 @@ gives_subtract = refl
 
 -- of what are not both spans
 no_difference : (x y : Report) → are_spans x y ≡ false → difference_report x y ≡ all_words
-unfolding difference_report with if◌then◌else◌
+unfolding difference_report with when◌then◌else◌
 no_difference x y e = rw e
 
 -- of spans: where the first starts at or above the second's high, no difference wraps
 pub difference_covers : {v w : Reading} {x y : Report} → Two v w x y → Covers (operation_reading subtract_code v w) (difference_report x y)
-unfolding operation_reading operands_are_words is_word operands_of row_of result_reading gives_truth_of operate_of difference_report are_spans with if◌then◌else◌ if◌equals◌then◌else◌ if◌below◌then◌else◌
+unfolding operation_reading operands_are_words is_word operands_of row_of result_reading gives_truth_of operate_of difference_report are_spans with when◌then◌else◌ if◌equals◌then◌else◌ if◌below◌then◌else◌
 difference_covers (spans {n = n} {l = l} {h = h} {m = m} {k = k} {j = j} a b c d e f) = go (ltb l j) refl
   where
     go : (t : Bool) → ltb l j ≡ t → Covers (reading_of word_term (difference_of width n m)) (pick t all_words (word_report (difference_of width l j) (difference_of width h k)))
@@ -117,12 +117,12 @@ gives_less = refl
 
 -- of what are not both spans
 no_less : (x y : Report) → are_spans x y ≡ false → less_report x y ≡ both_truths
-unfolding less_report with if◌then◌else◌
+unfolding less_report with when◌then◌else◌
 no_less x y e = rw e
 
 -- of spans: by where the first ends and starts
 pub less_covers : {v w : Reading} {x y : Report} → Two v w x y → Covers (operation_reading less_code v w) (less_report x y)
-unfolding operation_reading operands_are_words is_word operands_of row_of result_reading gives_truth_of operate_of less_report are_spans with if◌then◌else◌ if◌equals◌then◌else◌ if◌below◌then◌else◌
+unfolding operation_reading operands_are_words is_word operands_of row_of result_reading gives_truth_of operate_of less_report are_spans with when◌then◌else◌ if◌equals◌then◌else◌ if◌below◌then◌else◌
 less_covers (spans {n = n} {l = l} {h = h} {m = m} {k = k} {j = j} a b c d e f) = go (ltb n m) (ltb h k) (ltb l j) refl refl refl
   where
     go : (t r s : Bool) → ltb n m ≡ t → ltb h k ≡ r → ltb l j ≡ s → Covers (truth_reading t) (pick r (truth_report 1 1) (pick s both_truths (truth_report 0 0)))

@@ -8,7 +8,7 @@ use native.Mathlib.Omega.{arith}
 use lib.Dec.{eqb, ltb}
 use lib.ListN.{get_or}
 use borrow.Author.Tests.{eqb-true, ne_eqb, ltb-true, lt-ltb}
-use Rattle.notation.specs.Notation.{pick, with, if◌then◌else◌, if◌equals◌then◌else◌, if◌below◌then◌else◌}
+use Rattle.notation.specs.Notation.{pick, with, when◌then◌else◌, if◌equals◌then◌else◌, if◌below◌then◌else◌}
 use Rattle.words.specs.Words.{word_limit}
 use Rattle.operators.specs.Operators.{row_of, gives_truth_of}
 use Rattle.semantics.specs.declared.Term.{Term}
@@ -59,11 +59,11 @@ module _ {v w : Reading} {x y : Report} (c : Covers v x) (d : Covers w y) where
       go false false false i j k = other_covers op v w (number_small c) (number_small d)
 
   is_word_covers : Covered is_word_code
-  unfolding operator_reading operator_report other_report gives_truth_of row_of with if◌then◌else◌ if◌equals◌then◌else◌ if◌below◌then◌else◌
+  unfolding operator_reading operator_report other_report gives_truth_of row_of with when◌then◌else◌ if◌equals◌then◌else◌ if◌below◌then◌else◌
   is_word_covers = any_truth (is_word v)
 
   is_procedure_covers : Covered is_procedure_code
-  unfolding operator_reading operator_report other_report gives_truth_of row_of with if◌then◌else◌ if◌equals◌then◌else◌ if◌below◌then◌else◌
+  unfolding operator_reading operator_report other_report gives_truth_of row_of with when◌then◌else◌ if◌equals◌then◌else◌ if◌below◌then◌else◌
   is_procedure_covers = any_truth (eqb v.sort procedure_term)
 
   negation_covers : Covered negation_code
@@ -79,7 +79,7 @@ module _ {v w : Reading} {x y : Report} (c : Covers v x) (d : Covers w y) where
   disjunction_covers = or_covers (two c d)
 
   truth_code_covers : Covered truth_code
-  unfolding operator_reading operator_report other_report gives_truth_of row_of with if◌then◌else◌ if◌equals◌then◌else◌ if◌below◌then◌else◌
+  unfolding operator_reading operator_report other_report gives_truth_of row_of with when◌then◌else◌ if◌equals◌then◌else◌ if◌below◌then◌else◌
   truth_code_covers = passes_covers v
 
   -- "Code 13 makes no term of its own", and there is no other in a table that is laid out

@@ -8,7 +8,7 @@ use native.Mathlib.Omega.{arith}
 use lib.Dec.{eqb, ltb}
 use lib.ListN.{length, get_or, drop, replicate, length-drop, get_or-replicate}
 use lib.Seq.{length-take-le, get_or-take, get_or-drop}
-use Rattle.notation.specs.Notation.{pick, if◌then◌else◌, if◌equals◌then◌else◌, if◌below◌then◌else◌, unless◌then◌else◌}
+use Rattle.notation.specs.Notation.{pick, when◌then◌else◌, if◌equals◌then◌else◌, if◌below◌then◌else◌, unless◌then◌else◌}
 use Rattle.words.specs.Words.{word_limit, last_word}
 use Rattle.semantics.specs.declared.Input.{Input}
 use Rattle.semantics.specs.declared.Result.{Result}
@@ -41,7 +41,7 @@ value_numbered v h = go (eqb v.sort truth_term) (eqb v.sort word_term)
 
 -- the result's
 result_numbered : (s t halted : Bool) (v : Reading) → v.number < word_limit → Numbered (result_outcome s t halted v)
-unfolding result_outcome if◌then◌else◌
+unfolding result_outcome when◌then◌else◌
 result_numbered s false halted v h = tt
 result_numbered false true halted v h = tt
 result_numbered true true true v h = tt

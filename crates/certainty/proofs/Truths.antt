@@ -5,7 +5,7 @@ use Prim.Native.Nat.{zero, suc, ◌-◌, min, max}
 use native.Mathlib.Omega.{arith}
 use lib.Dec.{eqb}
 use borrow.Author.Tests.{eqb-true, eqb-false}
-use Rattle.notation.specs.Notation.{pick, with, if◌then◌else◌, if◌equals◌then◌else◌}
+use Rattle.notation.specs.Notation.{pick, with, when◌then◌else◌, if◌equals◌then◌else◌}
 use Rattle.semantics.specs.declared.Reading.{Reading}
 use Rattle.semantics.specs.declared.Report.{Report}
 use Rattle.semantics.specs.Reading.{truth_reading, is_true, is_truth}
@@ -23,12 +23,12 @@ not_covers (a_word p q r) = any_truth false
 
 -- of what are not both truths
 no_and : (x y : Report) → are_truths x y ≡ false → and_report x y ≡ both_truths
-unfolding and_report with if◌then◌else◌
+unfolding and_report with when◌then◌else◌
 no_and x y e = rw e
 
 -- the smaller of two truths
 pub and_covers : {v w : Reading} {x y : Report} → Two v w x y → Covers (truth_reading (is_true v && is_true w)) (and_report x y)
-unfolding is_truth is_true and_report are_truths with if◌then◌else◌ if◌equals◌then◌else◌
+unfolding is_truth is_true and_report are_truths with when◌then◌else◌ if◌equals◌then◌else◌
 and_covers (spans a b c d e f) = any_truth false
 and_covers (truths {n = zero} {l = l} {h = h} {m = m} {k = k} {j = j} a b c d e f) = a_truth {n = 0} {l = min l k} {h = min h j} (omega arith) (omega arith) (omega arith)
 and_covers (truths {n = suc zero} {l = l} {h = h} {m = zero} {k = k} {j = j} a b c d e f) = a_truth {n = 0} {l = min l k} {h = min h j} (omega arith) (omega arith) (omega arith)
@@ -39,12 +39,12 @@ and_covers {v} {w} {x} {y} (others i j p q) = rw (no_and x y j) (any_truth (is_t
 
 -- of what are not both truths
 no_or : (x y : Report) → are_truths x y ≡ false → or_report x y ≡ both_truths
-unfolding or_report with if◌then◌else◌
+unfolding or_report with when◌then◌else◌
 no_or x y e = rw e
 
 -- the larger
 pub or_covers : {v w : Reading} {x y : Report} → Two v w x y → Covers (truth_reading ((is_truth v && is_truth w) && (is_true v || is_true w))) (or_report x y)
-unfolding is_truth is_true or_report are_truths with if◌then◌else◌ if◌equals◌then◌else◌
+unfolding is_truth is_true or_report are_truths with when◌then◌else◌ if◌equals◌then◌else◌
 or_covers (spans a b c d e f) = any_truth false
 or_covers (truths {n = zero} {l = l} {h = h} {m = zero} {k = k} {j = j} a b c d e f) = a_truth {n = 0} {l = max l k} {h = max h j} (omega arith) (omega arith) (omega arith)
 or_covers (truths {n = zero} {l = l} {h = h} {m = suc zero} {k = k} {j = j} a b c d e f) = a_truth {n = 1} {l = max l k} {h = max h j} (omega arith) (omega arith) (omega arith)
@@ -81,8 +81,8 @@ cover_right (a_word p q r) (a_truth a b c) = open_kind (number_small (a_truth a 
 cover_right (a_word {n = n} {l = l} {h = h} p q r) (a_word {n = m} {l = k} {h = j} a b c) = a_word {n = m} {l = min l k} {h = max h j} (omega arith) (omega arith) (omega arith)
 
 -- "a choice reports the decided side, else the smallest report that covers both"
-pub choice_covers : {u v w : Reading} {x y z : Report} → Covers u x → Covers v y → Covers w z → Covers (if is_true u then v else w) (choice_report x y z)
-unfolding is_true choice_report only_true only_false with if◌then◌else◌ if◌equals◌then◌else◌
+pub choice_covers : {u v w : Reading} {x y z : Report} → Covers u x → Covers v y → Covers w z → Covers (when is_true u then v else w) (choice_report x y z)
+unfolding is_true choice_report only_true only_false with when◌then◌else◌ if◌equals◌then◌else◌
 choice_covers {u} {v} {w} {x} {y} {z} (open_kind p) c d = go (is_true u)
   where
     go : (b : Bool) → Covers (pick b v w) (cover_of y z)

@@ -6,7 +6,7 @@ use mathlib.Core.List.{List, [], ◌∷◌}
 use Prim.Native.Nat.{ℕ, zero, suc, ◌+◌, ◌≤◌, min}
 use lib.ListN.{length, get_or, set, take}
 use lib.Seq.{set_out}
-use Rattle.notation.specs.Notation.{pick, if◌then◌else◌, every}
+use Rattle.notation.specs.Notation.{pick, when◌then◌else◌, every}
 use Rattle.semantics.specs.Rules.{Part}
 use Rattle.children.specs.declared.Children.{Children}
 use Rattle.children.specs.Children.{part_of, children_of, bumped_of, marked_of}
@@ -27,7 +27,7 @@ module _ {A : Type 0} (x y : A) where
     every_none h g = rw (← e, h) g
 
     pub every_one : n ≡ 1 → z ≡ f x → z ≡ every f l
-    unfolding every if◌then◌else◌
+    unfolding every when◌then◌else◌
     every_one h g = rw (← e, h) (go (f x) g)
       where
         go : (b : Bool) → z ≡ b → z ≡ pick b true false
@@ -35,7 +35,7 @@ module _ {A : Type 0} (x y : A) where
         go false q = q
 
     pub every_two : (n ≡ 0 → ⊥) → (n ≡ 1 → ⊥) → z ≡ (f x && f y) → z ≡ every f l
-    unfolding every if◌then◌else◌
+    unfolding every when◌then◌else◌
     every_two h k g = rw (← e, take_two n h k) (go (f x) (f y) g)
       where
         go : (b c : Bool) → z ≡ (b && c) → z ≡ pick b (pick c true false) false

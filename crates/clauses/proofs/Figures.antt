@@ -1,7 +1,7 @@
 -- The figures of docs/CLAUSES.md, computed: `tools/clause_table` writes its table from these. Assumes nothing.
 use mathlib.Core.Path.{◌≡◌, refl}
 use mathlib.Core.List.{[], ◌∷◌}
-use Rattle.notation.specs.Notation.{if◌then◌else◌, if◌equals◌then◌else◌, if◌below◌then◌else◌}
+use Rattle.notation.specs.Notation.{when◌then◌else◌, if◌equals◌then◌else◌, if◌below◌then◌else◌}
 use Rattle.words.specs.Words.{low_of, high_of, join_of}
 use Rattle.circuits.specs.Circuits.{add_with, add, carries, ands, product, chosen, barrel, clear, shifted_up, shifted_down, tree, flags, same_bits, sums, pairs, masks, products}
 use Rattle.circuits.specs.Templates.{sum_gates, difference_gates, product_gates, bitwise_gates, shift_gates, shift_by_gates, ones_gates, zeros_gates, less_gates, equal_gates, operator_gates}
@@ -26,5 +26,5 @@ shifts_have = refl
 
 goals_have : of_goals
     ≡ row 1 0 1 ∷ row 2 0 2 ∷ row 20 0 20 ∷ row 1 0 2 ∷ row 2 0 2 ∷ row 1 0 0 ∷ []
-unfolding of_goals goal_clauses term_clauses term_gates digits low_of high_of join_of if◌then◌else◌ if◌equals◌then◌else◌
+unfolding of_goals goal_clauses term_clauses term_gates digits low_of high_of join_of when◌then◌else◌ if◌equals◌then◌else◌
 goals_have = refl

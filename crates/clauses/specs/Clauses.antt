@@ -1,6 +1,6 @@
 -- The clauses of a table's terms and of a goal, over the variables of DIMACS, which are numbers from 1 on (document 02, Six). Assumes nothing.
 use Rattle.std.specs.Prelude.{ℕ, zero, suc, ◌+◌, ◌-◌, ◌*◌, ◌/◌, ◌%◌, Bool, true, false, List, [], ◌∷◌, ◌++◌, eqb, length}
-use Rattle.notation.specs.Notation.{if◌then◌else◌, if◌equals◌then◌else◌, if◌below◌then◌else◌}
+use Rattle.notation.specs.Notation.{when◌then◌else◌, if◌equals◌then◌else◌, if◌below◌then◌else◌}
 use Rattle.words.specs.Words.{width}
 use Rattle.circuits.specs.Gates.{Literal, pos, neg, Function, copy, and2, or2, choose, passing, Gate, fix, gate, clauses, onto}
 use Rattle.circuits.specs.Circuits.{shifted_up, shifted_down}
@@ -135,11 +135,11 @@ truth_variable n = own_variable n 2
 -- "The goal is one of: some reading errs, some aborts, or some gives a named word": a halt errs unless only S is false, and gives no word
 unfoldable pub goal_clauses : Result → Goal → List (List (Literal ℕ))
 goal_clauses r Errs =
-    if r.halted then (pos (truth_variable r.state.assumed) ∷ neg (truth_variable r.state.asserted) ∷ []) ∷ []
+    when r.halted then (pos (truth_variable r.state.assumed) ∷ neg (truth_variable r.state.asserted) ∷ []) ∷ []
     else (neg (truth_variable r.state.asserted) ∷ []) ∷ []
 goal_clauses r Aborts = (neg (truth_variable r.state.assumed) ∷ []) ∷ (pos (truth_variable r.state.asserted) ∷ []) ∷ []
 goal_clauses r (Gives w) =
-    if r.halted then [] ∷ []
+    when r.halted then [] ∷ []
     else (pos (truth_variable r.state.assumed) ∷ []) ∷ (pos (truth_variable r.state.asserted) ∷ []) ∷ term_clauses 0 r.value (word_term_of w) blank
 
 -- "the goal's last"

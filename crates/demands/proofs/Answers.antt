@@ -7,7 +7,7 @@ use native.Mathlib.Omega.{arith}
 use lib.Dec.{ltb, leb}
 use lib.ListN.{length}
 use borrow.Author.Tests.{ltb-true, ltb-false, leb-false}
-use Rattle.notation.specs.Notation.{pick, with, if◌then◌else◌, if◌below◌then◌else◌, unless◌then◌else◌, up_to}
+use Rattle.notation.specs.Notation.{pick, with, when◌then◌else◌, if◌below◌then◌else◌, unless◌then◌else◌, up_to}
 use Rattle.semantics.specs.declared.Session.{Session}
 use Rattle.semantics.specs.declared.Evaluated.{Evaluated}
 use Rattle.semantics.specs.Numbers.{misfit, rule_size, bad_record, bad_tree, bad_place, bad_allowance, rules_spent, call_too_wide, rule_limit}
@@ -19,7 +19,7 @@ use Rattle.demands.specs.Demand1.{first_failed}
 
 -- the tests 4 to 7 refuse by their own numbers
 rule_number : (s : List ℕ) → (rule_refusal_of s ≡ misfit → ⊥) × (rule_refusal_of s < bad_allowance)
-unfolding rule_refusal_of tests_of if◌then◌else◌ unless◌then◌else◌
+unfolding rule_refusal_of tests_of when◌then◌else◌ unless◌then◌else◌
 rule_number s =
     go (bad_rule_size (length s)) (up_to (records_in s) (λ i. shaped_of (record_at s i))) (up_to (records_in s) (linked_of s (records_in s))) (up_to (records_in s) (scoped_of s))
   where
@@ -39,7 +39,7 @@ module _ (rule : List ℕ) (allowance : ℕ) (x : Session) (s : List ℕ) where
     goes : n ≡ 0 → x.halted ≡ false → o ≡ evaluated rule allowance x s → Answered n o
 
   pub answered : Answered (first_failed rule allowance x s) (evaluate_of rule allowance x s)
-  unfolding first_failed evaluate_of if◌then◌else◌ if◌below◌then◌else◌ unless◌then◌else◌ with
+  unfolding first_failed evaluate_of when◌then◌else◌ if◌below◌then◌else◌ unless◌then◌else◌ with
   answered = go (fits_of x s) (rule_refusal_of rule) (ltb 0 (rule_refusal_of rule)) (bad_depth allowance) (leb rule_limit x.accepted) x.halted refl refl
     where
       go : (f : Bool) (k : ℕ) (p b l h : Bool) → ltb 0 k ≡ p → x.halted ≡ h → Answered (pick f (pick p k (pick b bad_allowance (pick l rules_spent 0))) misfit)
@@ -57,7 +57,7 @@ module _ (rule : List ℕ) (allowance : ℕ) (x : Session) (s : List ℕ) where
     pub few : x.accepted < rule_limit
 
   pub passed : first_failed rule allowance x s ≡ 0 → Passed
-  unfolding first_failed if◌then◌else◌ if◌below◌then◌else◌ unless◌then◌else◌ with
+  unfolding first_failed when◌then◌else◌ if◌below◌then◌else◌ unless◌then◌else◌ with
   passed = go (fits_of x s) (rule_refusal_of rule) (ltb 0 (rule_refusal_of rule)) (bad_depth allowance) (leb rule_limit x.accepted) refl refl refl refl
     where
       go : (f : Bool) (k : ℕ) (p b l : Bool) → rule_refusal_of rule ≡ k → ltb 0 k ≡ p → bad_depth allowance ≡ b → leb rule_limit x.accepted ≡ l
@@ -74,7 +74,7 @@ module _ (rule : List ℕ) (allowance : ℕ) (x : Session) (s : List ℕ) where
 
   -- Where the session and table fit, a test that fails is not 3; it is never 10, 11 or 12.
   pub failed_number : fits_of x s ≡ true → (first_failed rule allowance x s ≡ misfit → ⊥) × (first_failed rule allowance x s < call_too_wide)
-  unfolding first_failed if◌then◌else◌ if◌below◌then◌else◌ unless◌then◌else◌ with
+  unfolding first_failed when◌then◌else◌ if◌below◌then◌else◌ unless◌then◌else◌ with
   failed_number h = rw h (go (rule_refusal_of rule) (ltb 0 (rule_refusal_of rule)) (bad_depth allowance) (leb rule_limit x.accepted) (rule_number rule).0 (rule_number rule).1)
     where
       go : (k : ℕ) (p b l : Bool) → (k ≡ misfit → ⊥) → k < bad_allowance → (pick p k (pick b bad_allowance (pick l rules_spent 0)) ≡ misfit → ⊥)

@@ -5,7 +5,7 @@ use mathlib.Core.List.{List}
 use Prim.Native.Nat.{ℕ, ◌<◌}
 use native.Mathlib.Omega.{arith}
 use lib.ListN.{length}
-use Rattle.notation.specs.Notation.{pick, if◌then◌else◌}
+use Rattle.notation.specs.Notation.{pick, when◌then◌else◌}
 use Rattle.semantics.specs.declared.Result.{Result}
 use Rattle.semantics.specs.declared.Session.{Session}
 use Rattle.semantics.specs.declared.Answer.{Answer}
@@ -23,7 +23,7 @@ use Rattle.demands.proofs.Ruling.{evaluated_ruled}
 
 -- ---- answers that differ
 pub out_refused : {P : Type 0} (w : Result) (u n : ℕ) → answer_of w u ≡ Refused n → P
-unfolding if◌then◌else◌
+unfolding when◌then◌else◌
 out_refused {P} w u n = go w.halted
   where
     go : (b : Bool) → pick b (Halt w.state u) (Out w.state w.value u) ≡ Refused n → P
@@ -36,7 +36,7 @@ refused_same e = cc
 module _ (rule : List ℕ) (allowance : ℕ) (x : Session) (s : List ℕ) where
   -- ---- how a call ends that the tests pass
   result_ends : x.halted ≡ false → (g : Got Result) → ruling rule allowance x s ≡ g → Known g → Ends rule allowance x s (left x s g).0.answer
-  unfolding refused_by if◌then◌else◌
+  unfolding refused_by when◌then◌else◌
   result_ends h (gave us w u) e result = go w.halted refl
     where
       go : (b : Bool) → w.halted ≡ b → Ends rule allowance x s (pick b (Halt w.state u) (Out w.state w.value u))

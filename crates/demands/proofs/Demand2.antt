@@ -7,7 +7,7 @@ use native.Mathlib.Omega.{arith}
 use lib.Dec.{ltb}
 use lib.ListN.{length, replicate}
 use borrow.Author.Tests.{ltb-true, ltb-false}
-use Rattle.notation.specs.Notation.{pick, with, if◌then◌else◌, if◌below◌then◌else◌, unless◌then◌else◌, every}
+use Rattle.notation.specs.Notation.{pick, with, when◌then◌else◌, if◌below◌then◌else◌, unless◌then◌else◌, every}
 use Rattle.semantics.specs.declared.Term.{Term}
 use Rattle.semantics.specs.declared.Input.{Input}
 use Rattle.semantics.specs.declared.Result.{Result}
@@ -100,7 +100,7 @@ module _ (xs : List Input) (numbers rule : List ℕ) (allowance : ℕ) (store : 
     ran : n ≡ 0 → rule_refusal_of rule ≡ 0 → o ≡ stored_outcome (started_of places rule allowance (inputs_bound xs numbers)) → Answered n o
 
   answered : Answered (plain_failed xs numbers rule allowance) (run_outcome xs numbers rule allowance (length store))
-  unfolding plain_failed run_outcome if◌then◌else◌ if◌below◌then◌else◌ unless◌then◌else◌ with
+  unfolding plain_failed run_outcome when◌then◌else◌ if◌below◌then◌else◌ unless◌then◌else◌ with
   answered = go (every input_taken xs) (numbers_taken xs numbers) (rule_refusal_of rule) (ltb 0 (rule_refusal_of rule)) (bad_depth allowance) refl refl
     where
       go : (i n : Bool) (k : ℕ) (p b : Bool) → rule_refusal_of rule ≡ k → ltb 0 k ≡ p → Answered (pick i (pick n (pick p k (pick b bad_allowance 0)) bad_number) bad_input)

@@ -6,7 +6,7 @@ use Prim.Native.Nat.{ℕ, ◌<◌, ◌≤◌}
 use native.Mathlib.Omega.{arith}
 use lib.ListN.{length, replicate, length-replicate}
 use borrow.Author.Tests.{le-ltb}
-use Rattle.notation.specs.Notation.{pick, with, if◌then◌else◌, if◌below◌then◌else◌, unless◌then◌else◌, every}
+use Rattle.notation.specs.Notation.{pick, with, when◌then◌else◌, if◌below◌then◌else◌, unless◌then◌else◌, every}
 use Rattle.semantics.specs.declared.Term.{Term}
 use Rattle.semantics.specs.declared.Input.{Input}
 use Rattle.semantics.specs.declared.State.{State}
@@ -162,7 +162,7 @@ module _ (xs : List Input) (sixteen : length xs ≡ input_count) (good : every i
       small = small_adds ns (opening_small ns xs (omega arith) taken (setting_of most_table) (opening-begun xs sixteen).gives) read.holds.adds
 
       result_taken_lem : result_taken read.terms read.read ≡ true
-      unfolding result_taken if◌then◌else◌
+      unfolding result_taken when◌then◌else◌
       result_taken_lem = rw (truth_named read.sim.state.S.sort, truth_named read.sim.state.T.sort, read.sim.value.named.is) (go read.read.halted)
         where
           go : (b : Bool) → pick b true true ≡ true
@@ -227,7 +227,7 @@ pub record Taken (xs : List Input) (s : List ℕ) : Type 0 where
   pub is : open_of xs s ≡ (record { refusal = 0; session = session_of xs (length (opening xs).terms) }, image_of (length s) (opening xs).terms)
 
 pub accepts : (xs : List Input) (s : List ℕ) → (open_of xs s).0.refusal ≡ 0 → Taken xs s
-unfolding open_of if◌then◌else◌ unless◌then◌else◌ with
+unfolding open_of when◌then◌else◌ unless◌then◌else◌ with
 accepts xs s = go (bad_table_size (length s)) (every input_taken xs) refl refl
   where
     go : (b t : Bool) → bad_table_size (length s) ≡ b → every input_taken xs ≡ t

@@ -6,7 +6,7 @@ use Prim.Native.Nat.{ℕ, suc, ◌-◌, ◌*◌, ◌/◌, ◌≤◌}
 use native.Mathlib.Omega.{arith}
 use lib.ListN.{length, take, drop}
 use borrow.Author.Tests.{eq-eqb, le-leb}
-use Rattle.notation.specs.Notation.{if◌then◌else◌, every}
+use Rattle.notation.specs.Notation.{when◌then◌else◌, every}
 use Rattle.semantics.specs.declared.Term.{Term}
 use Rattle.semantics.specs.declared.Input.{Input}
 use Rattle.semantics.specs.declared.Session.{Session}
@@ -49,7 +49,7 @@ same_all (t ∷ ts) = rw (same_self t, same_all ts)
 
 -- what was added holds no free input
 added_free : {r : ℕ} {os ts : List Term} → Adds r os ts → every no_free (take (length ts - length os) ts) ≡ true
-unfolding every if◌then◌else◌
+unfolding every when◌then◌else◌
 added_free {os = os} none = let e : length os - length os ≡ 0 = omega arith in rw e
 added_free {os = os} (one {us = us} {t = t} n l a) =
     let k = grown_length (adds_grown a) in

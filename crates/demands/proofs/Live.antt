@@ -8,7 +8,7 @@ use native.Mathlib.Omega.{arith}
 use lib.ListN.{length}
 use lib.Dec.{ltb}
 use borrow.Author.Tests.{ltb-true}
-use Rattle.notation.specs.Notation.{pick, if◌then◌else◌, every}
+use Rattle.notation.specs.Notation.{pick, when◌then◌else◌, every}
 use Rattle.semantics.specs.declared.Term.{Term}
 use Rattle.semantics.specs.declared.Input.{Input}
 use Rattle.semantics.specs.declared.Result.{Result}
@@ -56,7 +56,7 @@ rules_more xs ns rs k = ran_more (inputs_bound xs ns) _ rs k
 -- ---- the result that an accepted rule's answer holds
 module _ (w : Result) (u : ℕ) (q : Result) where
   answered_state : (result_in (answer_of w u) q).state ≡ w.state
-  unfolding if◌then◌else◌
+  unfolding when◌then◌else◌
   answered_state = go w.halted
     where
       go : (b : Bool) → (result_in (pick b (Halt w.state u) (Out w.state w.value u)) q).state ≡ w.state
@@ -64,7 +64,7 @@ module _ (w : Result) (u : ℕ) (q : Result) where
       go false = refl
 
   answered_halted : (result_in (answer_of w u) q).halted ≡ w.halted
-  unfolding if◌then◌else◌
+  unfolding when◌then◌else◌
   answered_halted = go w.halted refl
     where
       go : (b : Bool) → w.halted ≡ b → (result_in (pick b (Halt w.state u) (Out w.state w.value u)) q).halted ≡ w.halted
@@ -73,7 +73,7 @@ module _ (w : Result) (u : ℕ) (q : Result) where
 
   -- a halt's value is not read
   answered_sim : {ns : List ℕ} {n : ℕ} {us : List Term} {o : Ended} → Fit n us → Sim ns (ends o) us w → Sim ns (ends o) us (result_in (answer_of w u) q)
-  unfolding if◌then◌else◌
+  unfolding when◌then◌else◌
   answered_sim {ns} {n} {us} {o} f h = go w.halted refl
     where
       go : (b : Bool) → w.halted ≡ b → Sim ns (ends o) us (result_in (pick b (Halt w.state u) (Out w.state w.value u)) q)
@@ -82,7 +82,7 @@ module _ (w : Result) (u : ℕ) (q : Result) where
       go false e = sim_out h.state h.value (h.live e) h.sees
 
 accepted_one : (rs : List Accepted) (k : Call) (w : Result) (u : ℕ) → accepted_after rs k (answer_of w u) ≡ rs ++ (record { rule = k.rule; depth = u } ∷ [])
-unfolding if◌then◌else◌
+unfolding when◌then◌else◌
 accepted_one rs k w u = go w.halted
   where
     go : (b : Bool) → accepted_after rs k (pick b (Halt w.state u) (Out w.state w.value u)) ≡ rs ++ (record { rule = k.rule; depth = u } ∷ [])
@@ -121,7 +121,7 @@ more_rules [] k = omega arith
 more_rules (r ∷ rs) k = omega arith
 
 constants_each : (i : ℕ) (xs : List Input) → all_constants xs ≡ true → EachIn (λ j x. x.kind < free_truth) i xs
-unfolding every if◌then◌else◌
+unfolding every when◌then◌else◌
 constants_each i [] h = tt
 constants_each i (x ∷ xs) h =
     by_test (ltb x.kind free_truth) (all_constants xs) false h (λ p q. (ltb-true _ _ p, constants_each (suc i) xs q)) (λ p q. never q)

@@ -7,7 +7,7 @@ use native.Mathlib.Omega.{arith}
 use lib.Dec.{eqb, ltb}
 use lib.ListN.{length}
 use borrow.Author.Tests.{ne_eqb, le-ltb, ltb-false, eqb-false}
-use Rattle.notation.specs.Notation.{pick, if◌then◌else◌}
+use Rattle.notation.specs.Notation.{pick, when◌then◌else◌}
 use Rattle.semantics.specs.declared.Term.{Term}
 use Rattle.semantics.specs.declared.State.{State}
 use Rattle.semantics.specs.declared.Result.{Result}
@@ -94,7 +94,7 @@ module _ (rule : List ℕ) (x : Session) (s : List ℕ) where
           }
 
       left_smallest : (g : Got Result) → ruling rule a x s ≡ g → (d : ℕ) → Reports (left x s g).0.answer d → Smallest rule a x s d
-      unfolding refused_by if◌then◌else◌
+      unfolding refused_by when◌then◌else◌
       left_smallest (gave us w u) e d r = go w.halted r
         where
           go : (b : Bool) → Reports (pick b (Halt w.state u) (Out w.state w.value u)) d → Smallest rule a x s d

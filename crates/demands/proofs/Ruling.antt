@@ -7,7 +7,7 @@ use native.Mathlib.Omega.{arith}
 use lib.ListN.{length}
 use lib.Dec.{leb}
 use borrow.Author.Tests.{leb-true}
-use Rattle.notation.specs.Notation.{pick, if◌then◌else◌, unless◌then◌else◌, every}
+use Rattle.notation.specs.Notation.{pick, when◌then◌else◌, unless◌then◌else◌, every}
 use Rattle.semantics.specs.declared.Term.{Term}
 use Rattle.semantics.specs.declared.Result.{Result}
 use Rattle.semantics.specs.declared.Session.{Session}
@@ -50,7 +50,7 @@ first_fits rule allowance x s = go (fits_of x s) _
 
 -- the tests before the rules ask of an allowance only that 8 takes it
 pub first_same : (rule : List ℕ) (x : Session) (s : List ℕ) (d e : ℕ) → bad_depth d ≡ false → bad_depth e ≡ false → first_failed rule d x s ≡ first_failed rule e x s
-unfolding first_failed if◌then◌else◌
+unfolding first_failed when◌then◌else◌
 first_same rule x s d e p q = rw (p, q)
 
 module _ (rule : List ℕ) (allowance : ℕ) (x : Session) (s : List ℕ) where

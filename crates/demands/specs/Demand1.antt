@@ -2,7 +2,7 @@
 -- or with the refusal for table, depth or a call too wide that the rules themselves reach. All else is refused by its number, with table and session
 -- as they were." It is said of `evaluate_of`, which the operation is proved equal to. Assumes nothing.
 use Rattle.std.specs.Prelude.{◌≡◌, true, false, List, ℕ, ◌<◌, leb, length}
-use Rattle.notation.specs.Notation.{if◌then◌else◌, if◌below◌then◌else◌, unless◌then◌else◌, with}
+use Rattle.notation.specs.Notation.{when◌then◌else◌, if◌below◌then◌else◌, unless◌then◌else◌, with}
 use Rattle.semantics.specs.declared.Term.{Term}
 use Rattle.semantics.specs.declared.Result.{Result}
 use Rattle.semantics.specs.declared.Session.{Session}
@@ -22,8 +22,8 @@ unfoldable pub first_failed : List ℕ → ℕ → Session → List ℕ → ℕ
 first_failed rule allowance x s =
     unless fits_of x s then misfit else
     with (rule_refusal_of rule) λ k. if 0 below k then k else
-    if bad_depth allowance then bad_allowance else
-    if leb rule_limit x.accepted then rules_spent else
+    when bad_depth allowance then bad_allowance else
+    when leb rule_limit x.accepted then rules_spent else
     0
 
 -- what the symbolic rules give, from record 0 in the environment that opening left, with document 01's search for an equal term

@@ -2,7 +2,7 @@
 -- paper's concrete rules give, while its store lasts." It is said of `evaluate_of` and `run_plainly_of`, which the operations are proved equal to.
 -- Assumes nothing.
 use Rattle.std.specs.Prelude.{◌≡◌, false, List, ℕ, ◌+◌, ◌<◌, ◌≤◌, length, replicate}
-use Rattle.notation.specs.Notation.{if◌then◌else◌, if◌below◌then◌else◌, unless◌then◌else◌, with, every}
+use Rattle.notation.specs.Notation.{when◌then◌else◌, if◌below◌then◌else◌, unless◌then◌else◌, with, every}
 use Rattle.semantics.specs.declared.Term.{Term}
 use Rattle.semantics.specs.declared.Input.{Input}
 use Rattle.semantics.specs.declared.Result.{Result}
@@ -48,7 +48,7 @@ plain_failed xs numbers rule allowance =
     unless every input_taken xs then bad_input else
     unless numbers_taken xs numbers then bad_number else
     with (rule_refusal_of rule) λ k. if 0 below k then k else
-    if bad_depth allowance then bad_allowance else
+    when bad_depth allowance then bad_allowance else
     0
 
 -- "The inputs take 16 places first, then each let and each call of a procedure takes one as it binds": how many the concrete run needs until it ends

@@ -7,7 +7,7 @@ use mathlib.Core.List.{List, [], ◌∷◌}
 use Prim.Native.Nat.{ℕ, zero, suc}
 use lib.Dec.{eqb, ltb}
 use borrow.Author.Tests.{eqb-true, eqb-false}
-use Rattle.notation.specs.Notation.{pick, with, if◌then◌else◌, if◌equals◌then◌else◌, if◌below◌then◌else◌}
+use Rattle.notation.specs.Notation.{pick, with, when◌then◌else◌, if◌equals◌then◌else◌, if◌below◌then◌else◌}
 use Rattle.words.proofs.Words.{join_halves}
 use Rattle.operators.specs.Operators.{operate_of}
 use Rattle.semantics.specs.declared.Term.{Term}
@@ -69,8 +69,8 @@ module _ {W : ℕ → Type 0} (R : (A : Type 0) → Make A → Make A → Type 0
     kept_pick true = f
     kept_pick false = g
 
-    kept_if : (b : Bool) → R A (if b then x else y) (if b then v else w)
-    unfolding if◌then◌else◌
+    kept_if : (b : Bool) → R A (when b then x else y) (when b then v else w)
+    unfolding when◌then◌else◌
     kept_if b = kept_pick b
 
     kept_eq : (i j : ℕ) → R A (if i equals j then x else y) (if i equals j then v else w)

@@ -7,7 +7,7 @@ use mathlib.Core.List.{List, [], ◌∷◌}
 use Prim.Native.Nat.{ℕ, zero, suc, ◌+◌, ◌-◌, ◌<◌, ◌≤◌}
 use native.Mathlib.Omega.{arith}
 use lib.ListN.{length, get_or, set}
-use Rattle.notation.specs.Notation.{pick, if◌then◌else◌}
+use Rattle.notation.specs.Notation.{pick, when◌then◌else◌}
 use Rattle.firsts.specs.Witness.{First, none, some}
 use Rattle.firsts.specs.Firsts.{InBox, end, one}
 use Rattle.firsts.proofs.Nested.{or_else, onto, or_none, or_or, onto_or, first_from, first_of, from_same, first_same}
@@ -50,8 +50,8 @@ box_split p (suc i) m (l ∷ ls) (h ∷ hs) s a b c d =
     (onto_or l (first_of (λ ns. p (l ∷ ns)) ls (set hs i m)) (first_of (λ ns. p (l ∷ ns)) (set ls i (m + 1)) hs))
 
 -- ---- a box of one reading
-pub box_single : (p : List ℕ → Bool) (ls hs : List ℕ) → length ls ≡ length hs → ((j : ℕ) → j < length ls → get_or ls j 0 ≡ get_or hs j 0) → first_of p ls hs ≡ (if p ls then some ls else none)
-unfolding first_of if◌then◌else◌
+pub box_single : (p : List ℕ → Bool) (ls hs : List ℕ) → length ls ≡ length hs → ((j : ℕ) → j < length ls → get_or ls j 0 ≡ get_or hs j 0) → first_of p ls hs ≡ (when p ls then some ls else none)
+unfolding first_of when◌then◌else◌
 box_single p [] hs n s = refl
 box_single p (l ∷ ls) [] n s = absurd (omega arith)
 box_single p (l ∷ ls) (h ∷ hs) n s =
@@ -63,7 +63,7 @@ box_single p (l ∷ ls) (h ∷ hs) n s =
 
 -- ---- a box in which p never holds
 pub box_none : (p : List ℕ → Bool) (ls hs : List ℕ) → ((ns : List ℕ) → InBox ls hs ns → p ns ≡ false) → first_of p ls hs ≡ none
-unfolding first_of if◌then◌else◌
+unfolding first_of when◌then◌else◌
 box_none p [] hs h = rw (h [] end)
 box_none p (l ∷ ls) [] h = refl
 box_none p (l ∷ ls) (k ∷ hs) h = from_none _ l (suc k - l) (λ m a b. rw (box_none (λ ns. p (m ∷ ns)) ls hs (λ ns c. h (m ∷ ns) (one (omega arith) (omega arith) c))))
@@ -100,7 +100,7 @@ from_apart none l h e = from_none _ l (suc h - l) (λ m a b. refl)
 from_apart (some ns) l h e = let i : suc h - l ≡ suc (h - l) = omega arith in rw i
 
 pub box_narrow : (p : List ℕ → Bool) (ls hs ts : List ℕ) → length hs ≡ length ls → length ts ≡ length ls → Narrowed p ls hs ts → first_of p ls hs ≡ first_of p ls ts
-unfolding first_of if◌then◌else◌
+unfolding first_of when◌then◌else◌
 box_narrow p [] hs ts a b c = refl
 box_narrow p (l ∷ ls) [] ts a b c = absurd (omega arith)
 box_narrow p (l ∷ ls) (h ∷ hs) [] a b c = absurd (omega arith)

@@ -3,7 +3,7 @@ use mathlib.Core.Path.{◌≡◌, refl, ap, ◌∙◌}
 use mathlib.Core.Bool.{Bool, true, false}
 use mathlib.Core.List.{List, [], ◌∷◌, ◌++◌, map, flat_map}
 use Prim.Native.Nat.{ℕ, zero, suc, ◌+◌, ◌-◌}
-use Rattle.notation.specs.Notation.{pick, if◌then◌else◌}
+use Rattle.notation.specs.Notation.{pick, when◌then◌else◌}
 use Rattle.firsts.specs.Witness.{First, none, some, up_from, readings_from, first_that}
 
 -- ---- one or the other, and one more number before
@@ -35,13 +35,13 @@ first_from f n zero = none
 first_from f n (suc k) = or_else (f n) (first_from f (suc n) k)
 
 unfoldable pub first_of : (List ℕ → Bool) → List ℕ → List ℕ → First
-first_of p [] hs = if p [] then some [] else none
+first_of p [] hs = when p [] then some [] else none
 first_of p (l ∷ ls) [] = none
 first_of p (l ∷ ls) (h ∷ hs) = first_from (λ n. onto n (first_of (λ ns. p (n ∷ ns)) ls hs)) l (suc h - l)
 
 -- ---- they find what the definition does
 first_append : (p : List ℕ → Bool) (xs ys : List (List ℕ)) → first_that p (xs ++ ys) ≡ or_else (first_that p xs) (first_that p ys)
-unfolding first_that if◌then◌else◌
+unfolding first_that when◌then◌else◌
 first_append p [] ys = refl
 first_append p (x ∷ xs) ys = rw (first_append p xs ys) (go (p x))
   where
@@ -50,7 +50,7 @@ first_append p (x ∷ xs) ys = rw (first_append p xs ys) (go (p x))
     go false = refl
 
 first_onto : (p : List ℕ → Bool) (n : ℕ) (xs : List (List ℕ)) → first_that p (map (λ ns. n ∷ ns) xs) ≡ onto n (first_that (λ ns. p (n ∷ ns)) xs)
-unfolding first_that if◌then◌else◌
+unfolding first_that when◌then◌else◌
 first_onto p n [] = refl
 first_onto p n (x ∷ xs) = rw (first_onto p n xs) (go (p (n ∷ x)))
   where
@@ -80,7 +80,7 @@ first_nested p (l ∷ ls) (h ∷ hs) =
 
 -- ---- tests that hold of the same lists
 pub first_same : (p q : List ℕ → Bool) → ((ns : List ℕ) → p ns ≡ q ns) → (ls hs : List ℕ) → first_of p ls hs ≡ first_of q ls hs
-unfolding first_of if◌then◌else◌
+unfolding first_of when◌then◌else◌
 first_same p q e [] hs = rw (e [])
 first_same p q e (l ∷ ls) [] = refl
 first_same p q e (l ∷ ls) (h ∷ hs) = from_same _ _ (λ n. ap (onto n) (first_same (λ ns. p (n ∷ ns)) (λ ns. q (n ∷ ns)) (λ ns. e (n ∷ ns)) ls hs)) l (suc h - l)

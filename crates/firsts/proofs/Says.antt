@@ -8,7 +8,7 @@ use native.Mathlib.Omega.{arith}
 use lib.Dec.{ltb}
 use lib.ListN.{length}
 use borrow.Author.Tests.{ltb-true, ltb-false}
-use Rattle.notation.specs.Notation.{pick, if◌then◌else◌}
+use Rattle.notation.specs.Notation.{pick, when◌then◌else◌}
 use Rattle.firsts.specs.Witness.{First, none, some, readings_from, first_that}
 use Rattle.firsts.specs.Firsts.{InBox, end, one, Before, here, later, Found, Says}
 use Rattle.firsts.proofs.Nested.{or_else, onto, first_from, first_of, first_nested}
@@ -58,7 +58,7 @@ not_before (here q) e = let z : ◌≡◌ {A = ℕ} 0 1 = cc in omega arith
 not_before (later q) e = let z : ◌≡◌ {A = ℕ} 0 1 = cc in omega arith
 
 nested_says : (p : List ℕ → Bool) (ls hs : List ℕ) → length ls ≡ length hs → Says p ls hs (first_of p ls hs)
-unfolding first_of if◌then◌else◌
+unfolding first_of when◌then◌else◌
 nested_says p [] hs e = go (p []) refl
   where
     nowhere : p [] ≡ false → (ms : List ℕ) → InBox [] hs ms → p ms ≡ false

@@ -2,7 +2,7 @@
 -- [...] give the first such reading, comparing inputs from 0 up as plain numbers, or say that there is none." Assumes nothing.
 use Rattle.std.specs.Prelude.{ℕ, zero, suc, ◌+◌, ◌-◌, Bool, true, false, eqb, length, replicate}
 use mathlib.Core.List.{List, [], ◌∷◌, map, flat_map}
-use Rattle.notation.specs.Notation.{with, if◌then◌else◌, if◌equals◌then◌else◌, if◌below◌then◌else◌, unless◌then◌else◌}
+use Rattle.notation.specs.Notation.{with, when◌then◌else◌, if◌equals◌then◌else◌, if◌below◌then◌else◌, unless◌then◌else◌}
 use Rattle.words.specs.Words.{width, last_word}
 use Rattle.semantics.specs.declared.Term.{Term}
 use Rattle.semantics.specs.declared.Input.{Input}
@@ -74,15 +74,15 @@ pub data First : Type 0 where
 
 unfoldable pub first_that : (List ℕ → Bool) → List (List ℕ) → First
 first_that p [] = none
-first_that p (ns ∷ nss) = if p ns then some ns else first_that p nss
+first_that p (ns ∷ nss) = when p ns then some ns else first_that p nss
 
 -- ---- "Spans from request Two may narrow the search: then only readings inside them count." Without them a word goes from 0 to the last. "Constant
 -- inputs stand in it as 0."
 unfoldable pub least_of : Bool → List Input → List ℕ → List ℕ
-least_of spanned xs lows = ends_of 0 xs (if spanned then lows else replicate input_count 0)
+least_of spanned xs lows = ends_of 0 xs (when spanned then lows else replicate input_count 0)
 
 unfoldable pub greatest_of : Bool → List Input → List ℕ → List ℕ
-greatest_of spanned xs highs = ends_of 1 xs (if spanned then highs else replicate input_count last_word)
+greatest_of spanned xs highs = ends_of 1 xs (when spanned then highs else replicate input_count last_word)
 
 -- ---- 19: "at most 24 free bits in all (a truth is one, a word sixteen)"
 unfoldable pub bits_in : Input → ℕ
@@ -96,7 +96,7 @@ bits_of (x ∷ xs) = bits_in x + bits_of xs
 
 -- 17, of spans alone
 unfoldable pub spans_fit : Bool → List Input → List ℕ → List ℕ → Bool
-spans_fit spanned xs lows highs = if spanned then spans_taken xs lows highs else true
+spans_fit spanned xs lows highs = when spanned then spans_taken xs lows highs else true
 
 abbrev pub no_hit : Hit
 no_hit = record { found = false; numbers = replicate input_count 0 }

@@ -6,7 +6,7 @@ use mathlib.Core.List.{List}
 use Prim.Native.Nat.{ℕ, zero, suc, ◌-◌, ◌<◌, ◌≤◌}
 use native.Mathlib.Omega.{arith}
 use lib.ListN.{take}
-use Rattle.notation.specs.Notation.{pick, if◌then◌else◌, every}
+use Rattle.notation.specs.Notation.{pick, when◌then◌else◌, every}
 use Rattle.semantics.specs.declared.Term.{Term}
 use Rattle.semantics.specs.Terms.{term_at, terms_in, same_of}
 use Rattle.semantics.specs.Fits.{same_terms, no_free}
@@ -37,7 +37,7 @@ module _ (s : List ℕ) (n : ℕ) {z : Bool} where
 
   next_free : (i : ℕ) → every no_free (take (i - n) (terms_in s i)) ≡ z → n < i → {t : Term} → t ≡ term_at s (i - 1) → {b : Bool} → b ≡ no_free t
       → pick b (every no_free (take (i - 1 - n) (terms_in s (i - 1)))) false ≡ z
-  unfolding every terms_in if◌then◌else◌
+  unfolding every terms_in when◌then◌else◌
   next_free zero inv h et eb = absurd (omega arith)
   next_free (suc i) inv h et eb =
       let e : suc i - 1 ≡ i = omega arith in let u : suc i - n ≡ suc (i - n) = omega arith in rw (eb, et, e) (rw u at inv)

@@ -11,7 +11,7 @@ use lib.Seq.{sets, take-suc, take_all, get_or-append-add}
 use borrow.Author.Tests.{eq-eqb}
 use Rattle.words.specs.Words.{word_bytes, low_of, high_of}
 use Rattle.words.proofs.Words.{join_halves, one_field}
-use Rattle.notation.specs.Notation.{pick, if◌then◌else◌}
+use Rattle.notation.specs.Notation.{pick, when◌then◌else◌}
 use Rattle.notation.proofs.Every.{up_make}
 use Rattle.operators.specs.Operators.{bit_of}
 use Rattle.semantics.specs.declared.Input.{Input}
@@ -120,7 +120,7 @@ module _ (place : List ℕ) (long : length place ≡ answer_length) (r : Result)
   fills v m = sets_whole place (filled v m) long
 
   pub result_formed_lem : result_formed begins ≡ true
-  unfolding mark_formed if◌then◌else◌
+  unfolding mark_formed when◌then◌else◌
   result_formed_lem = go r.halted
     where
       go : (b : Bool) → result_formed (take result_length (written_at pairs_of (answer_values (pick b (Halt r.state d) (Out r.state r.value d))) place).1) ≡ true
@@ -128,7 +128,7 @@ module _ (place : List ℕ) (long : length place ≡ answer_length) (r : Result)
       go false = rw (fills r.value 0)
 
   pub result_back : result_in begins ≡ result_of (answer_of r d) r
-  unfolding result_in if◌then◌else◌
+  unfolding result_in when◌then◌else◌
   result_back = rw result_formed_lem (go r.halted)
     where
       go : (b : Bool) → result_at (take result_length (written_at pairs_of (answer_values (pick b (Halt r.state d) (Out r.state r.value d))) place).1) ≡ result_of (pick b (Halt r.state d) (Out r.state r.value d)) r

@@ -10,7 +10,7 @@ use lib.ListN.{get_or, set, take, length}
 use lib.Seq.{take_all, take-suc-set}
 use borrow.Author.Tests.{lt-ltb, le-ltb}
 use Rattle.words.specs.Words.{word_bytes, join_of}
-use Rattle.notation.specs.Notation.{if◌then◌else◌, up_to}
+use Rattle.notation.specs.Notation.{when◌then◌else◌, up_to}
 use Rattle.notation.proofs.Every.{up_next, up_stop, up_end}
 use Rattle.semantics.specs.declared.Input.{Input}
 use Rattle.semantics.specs.Records.{pair_at, word_at}
@@ -80,5 +80,5 @@ session_taken s exs ec es et ea em = rw (exs, ec, es, et, ea, em)
 -- ---- a result of its form
 pub result_taken_lem : (s : List ℕ) {b : Bool} → b ≡ result_formed s → b ≡ true → {assumed asserted value : ℕ} → assumed ≡ pair_at s 0 → asserted ≡ pair_at s 2 → value ≡ pair_at s 4
     → {m : ℕ} → m ≡ get_or s 6 0 → record { state = record { assumed = assumed; asserted = asserted }; value = value; halted = eqb m 1 } ≡ result_in s
-unfolding result_in if◌then◌else◌
+unfolding result_in when◌then◌else◌
 result_taken_lem s eb h es et ev em = rw (← eb, h, es, et, ev, em)

@@ -2,7 +2,7 @@
 -- first. Each form has one length. A form is broken by a byte that is to be zero and is not, and by a mark over 1. Assumes nothing.
 use Rattle.std.specs.Prelude.{ℕ, zero, suc, ◌+◌, ◌-◌, ◌*◌, ◌/◌, ◌%◌, Bool, false, ◌&&◌, List, [], ◌∷◌, ◌++◌, eqb, ltb, get_or, length, replicate}
 use Rattle.words.specs.Words.{word_bytes, low_of}
-use Rattle.notation.specs.Notation.{if◌then◌else◌, up_to}
+use Rattle.notation.specs.Notation.{when◌then◌else◌, up_to}
 use Rattle.operators.specs.Operators.{bit_of}
 use Rattle.semantics.specs.declared.Input.{Input}
 use Rattle.semantics.specs.declared.Result.{Result}
@@ -91,7 +91,7 @@ no_term = 65535
 -- a broken form is a result that names no term, so that 14 refuses it in its turn, after 3 and 13
 unfoldable pub result_in : List ℕ → Result
 result_in s =
-    if result_formed s then result_at s else
+    when result_formed s then result_at s else
     record { state = record { assumed = no_term; asserted = no_term }; value = no_term; halted = false }
 
 -- ---- to bytes

@@ -5,7 +5,7 @@ use mathlib.Core.List.{List, [], ◌∷◌, ◌++◌, map, append-nil}
 use Prim.Native.Nat.{ℕ, ◌+◌, ◌*◌, ◌/◌, ◌%◌, ◌^◌, ◌<◌, ◌≤◌}
 use native.Mathlib.Omega.{arith}
 use lib.ListN.{length, length-append}
-use Rattle.notation.specs.Notation.{pick, if◌then◌else◌, if◌equals◌then◌else◌}
+use Rattle.notation.specs.Notation.{pick, when◌then◌else◌, if◌equals◌then◌else◌}
 use Rattle.text.specs.Text.{line_feed, digit}
 use Rattle.words.specs.Words.{word_limit, low_of, high_of}
 use Rattle.circuits.specs.Gates.{Literal, pos, neg, wire, clauses}
@@ -40,7 +40,7 @@ units_text c d = ap (λ x. clause_text c ++ x) (sym (append-nil (clause_text d))
 module _ (r : Result) {s t : ℕ} where
   pub errs_halted : r.halted ≡ true → s ≡ 2 * truth_variable r.state.assumed → t ≡ 2 * truth_variable r.state.asserted
       → clause_text (as_literal s ∷ as_literal (t + 1) ∷ []) ≡ clauses_text (goal_clauses r Errs)
-  unfolding goal_clauses clauses_text if◌then◌else◌
+  unfolding goal_clauses clauses_text when◌then◌else◌
   errs_halted h p q = rw (h, lit_pos p, lit_neg q) (sym (append-nil _))
 
   pub aborts_given : s ≡ 2 * truth_variable r.state.assumed → t ≡ 2 * truth_variable r.state.asserted
@@ -50,22 +50,22 @@ module _ (r : Result) {s t : ℕ} where
 
   pub gives_word : (w : ℕ) → r.halted ≡ false → {u : Term} → u ≡ word_term_of w → s ≡ 2 * truth_variable r.state.assumed → t ≡ 2 * truth_variable r.state.asserted
       → clauses_text ((as_literal s ∷ []) ∷ (as_literal t ∷ []) ∷ []) ++ gates_text (places_of 0 r.value u) (map packed (term_gates u blank)) ≡ clauses_text (goal_clauses r (Gives w))
-  unfolding goal_clauses if◌then◌else◌
+  unfolding goal_clauses when◌then◌else◌
   gives_word w h e p q =
       rw (h, lit_pos p, lit_pos q, e, term_text 0 r.value (word_term_of w) blank)
       (sym (clauses_append ((pos (truth_variable r.state.assumed) ∷ []) ∷ (pos (truth_variable r.state.asserted) ∷ []) ∷ []) (term_clauses 0 r.value (word_term_of w) blank)))
 
 module _ (r : Result) where
   pub errs_given : {t : ℕ} → r.halted ≡ false → t ≡ 2 * truth_variable r.state.asserted → clause_text (as_literal (t + 1) ∷ []) ≡ clauses_text (goal_clauses r Errs)
-  unfolding goal_clauses clauses_text if◌then◌else◌
+  unfolding goal_clauses clauses_text when◌then◌else◌
   errs_given h q = rw (h, lit_neg q) (sym (append-nil _))
 
   pub gives_halted : (w : ℕ) → r.halted ≡ true → digit 0 ∷ line_feed ∷ [] ≡ clauses_text (goal_clauses r (Gives w))
-  unfolding goal_clauses clauses_text clause_text if◌then◌else◌
+  unfolding goal_clauses clauses_text clause_text when◌then◌else◌
   gives_halted w h = rw h
 
   pub errs_count : 1 ≡ length (goal_clauses r Errs)
-  unfolding goal_clauses if◌then◌else◌
+  unfolding goal_clauses when◌then◌else◌
   errs_count = go r.halted
     where
       go : (b : Bool) → 1 ≡ length (pick b ((pos (truth_variable r.state.assumed) ∷ neg (truth_variable r.state.asserted) ∷ []) ∷ []) ((neg (truth_variable r.state.asserted) ∷ []) ∷ []))
@@ -77,11 +77,11 @@ module _ (r : Result) where
   aborts_count = refl
 
   pub gives_none : (w : ℕ) → r.halted ≡ true → 1 ≡ length (goal_clauses r (Gives w))
-  unfolding goal_clauses if◌then◌else◌
+  unfolding goal_clauses when◌then◌else◌
   gives_none w h = rw h
 
   pub gives_count : (w : ℕ) → r.halted ≡ false → 20 ≡ length (goal_clauses r (Gives w))
-  unfolding goal_clauses if◌then◌else◌ term_clauses term_gates if◌equals◌then◌else◌ digits
+  unfolding goal_clauses when◌then◌else◌ term_clauses term_gates if◌equals◌then◌else◌ digits
   gives_count w h = rw h
 
 -- ---- the text of the goal's clauses is short
@@ -108,7 +108,7 @@ module _ (r : Result) (ls : r.state.assumed < 65536) (lt : r.state.asserted < 65
   asserted_short n e = brief_unit (n (truth_variable r.state.asserted)) (rw e (truth_below r.state.asserted lt))
 
   pub errs_short : length (clauses_text (goal_clauses r Errs)) ≤ 2048
-  unfolding goal_clauses clauses_text if◌then◌else◌
+  unfolding goal_clauses clauses_text when◌then◌else◌
   errs_short = go r.halted
     where
       go : (b : Bool) → length (clauses_text (pick b ((pos (truth_variable r.state.assumed) ∷ neg (truth_variable r.state.asserted) ∷ []) ∷ []) ((neg (truth_variable r.state.asserted) ∷ []) ∷ []))) ≤ 2048
@@ -140,7 +140,7 @@ module _ (r : Result) (ls : r.state.assumed < 65536) (lt : r.state.asserted < 65
       omega (arith, term_short 0 r.value (word_term_of w) blank (omega arith) lv f.0 f.1 (omega arith), word_count w)
 
   pub gives_short : r.value < 65536 → (w : ℕ) → w < word_limit → length (clauses_text (goal_clauses r (Gives w))) ≤ 2048
-  unfolding goal_clauses if◌then◌else◌
+  unfolding goal_clauses when◌then◌else◌
   gives_short lv w lw = go r.halted
     where
       go : (b : Bool)

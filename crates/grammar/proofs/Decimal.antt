@@ -7,7 +7,7 @@ use Prim.Native.Nat.{ℕ, zero, suc, ◌+◌, ◌-◌, ◌*◌, ◌/◌, ◌%◌
 use native.Mathlib.Omega.{arith}
 use lib.Dec.{ltb}
 use borrow.Author.Tests.{ltb-true, ltb-false, le-leb, ne_eqb}
-use Rattle.notation.specs.Notation.{if◌then◌else◌, if◌equals◌then◌else◌}
+use Rattle.notation.specs.Notation.{when◌then◌else◌, if◌equals◌then◌else◌}
 use Rattle.text.specs.Text.{digit, decimal_of}
 use Rattle.text.proofs.Decimals.{decimal_one, decimal_more}
 use Rattle.circuits.specs.Gates.{pos, neg}
@@ -69,7 +69,7 @@ decimal n = within n n (omega arith)
 
 -- ---- read
 natural_from : (b : ℕ) (s : List ℕ) → Digits (b ∷ s) → natural (b ∷ s) ≡ some (value_from 0 (b ∷ s))
-unfolding natural if◌then◌else◌
+unfolding natural when◌then◌else◌
 natural_from b s h = rw (are_digits (b ∷ s) h)
 
 pub natural_is : (n : ℕ) → natural (decimal_of n) ≡ some n

@@ -6,7 +6,7 @@ use Prim.Native.Nat.{ℕ, suc, ◌+◌, ◌*◌, ◌<◌, ◌≤◌}
 use native.Mathlib.Omega.{arith}
 use lib.ListN.{length}
 use borrow.Author.Tests.{ltb-true, le-leb}
-use Rattle.notation.specs.Notation.{pick, if◌then◌else◌, if◌equals◌then◌else◌}
+use Rattle.notation.specs.Notation.{pick, when◌then◌else◌, if◌equals◌then◌else◌}
 use Rattle.circuits.specs.Gates.{Literal, pos, neg, flip, wire, Slot, +o, -o, +a, -a, +b, -b, +c, -c, rows, Gate, fix, gate, slot, fixed, clauses_of, clauses, over, onto}
 use Rattle.circuits.specs.Templates.{Wire, wire_a, wire_b, wire_c, wire_true, helper, own}
 use Rattle.circuits.proofs.Order.{ordered, valid, Valid, ordered_valid}
@@ -166,7 +166,7 @@ module _ (m c : ℕ) (enough : owned * c ≤ m) where
       (ordered_valid false owned 0 0 0 (term_gates (word_term_of w) blank) (word_ordered w))
 
   goal_within : (r : Result) (g : Goal) → r.state.assumed < c → r.state.asserted < c → (r.halted ≡ false → r.value < c) → Clauses m (goal_clauses r g)
-  unfolding goal_clauses if◌then◌else◌
+  unfolding goal_clauses when◌then◌else◌
   goal_within r Errs ls lt lv = go r.halted
     where
       go : (b : Bool) → Clauses m (pick b ((pos (truth_variable r.state.assumed) ∷ neg (truth_variable r.state.asserted) ∷ []) ∷ []) ((neg (truth_variable r.state.asserted) ∷ []) ∷ []))

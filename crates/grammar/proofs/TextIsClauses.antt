@@ -8,7 +8,7 @@ use native.Mathlib.Omega.{arith}
 use lib.Dec.{ltb}
 use lib.ListN.{length, take, drop}
 use borrow.Author.Tests.{eq-eqb}
-use Rattle.notation.specs.Notation.{pick, with, if◌then◌else◌, if◌below◌then◌else◌, unless◌then◌else◌}
+use Rattle.notation.specs.Notation.{pick, with, when◌then◌else◌, if◌below◌then◌else◌, unless◌then◌else◌}
 use Rattle.text.specs.Text.{ascii, decimal_of}
 use Rattle.circuits.specs.Gates.{Literal}
 use Rattle.semantics.specs.declared.Session.{Session}
@@ -35,11 +35,11 @@ use Rattle.grammar.proofs.Ranges.{Clauses, clauses_proper, clauses_up_to, all_wi
 -- ---- a text of clauses whose variables are from 1 to v
 module _ (v : ℕ) (cs : List (List (Literal ℕ))) (h : Clauses v cs) where
   said : as_said (some v) (some (length cs)) (some cs) ≡ some (record { variables = v; clauses = cs })
-  unfolding if◌then◌else◌
+  unfolding when◌then◌else◌
   said = rw (eq-eqb (length cs) (length cs) refl, clauses_up_to v cs h)
 
   words_read : (ws : List (List ℕ)) → clauses_from ws ≡ some cs → dimacs_from (ascii "p" ∷ ascii "cnf" ∷ decimal_of v ∷ decimal_of (length cs) ∷ ws) ≡ some (record { variables = v; clauses = cs })
-  unfolding dimacs_from if◌then◌else◌
+  unfolding dimacs_from when◌then◌else◌
   words_read ws e = rw (natural_is v, natural_is (length cs), e) said
 
   text_read : dimacs_in (header_text v (length cs) ++ clauses_text cs) ≡ some (record { variables = v; clauses = cs })

@@ -6,7 +6,7 @@ use mathlib.Core.Option.{some}
 use Prim.Native.Nat.{ℕ, ◌≤◌}
 use native.Mathlib.Omega.{arith}
 use borrow.Author.Tests.{ne_eqb}
-use Rattle.notation.specs.Notation.{if◌then◌else◌, if◌equals◌then◌else◌}
+use Rattle.notation.specs.Notation.{when◌then◌else◌, if◌equals◌then◌else◌}
 use Rattle.text.proofs.Decimals.{decimal_one}
 use Rattle.text.specs.Text.{ascii, space, line_feed, digit, decimal_of}
 use Rattle.circuits.specs.Gates.{Literal, pos, neg, wire}
@@ -25,12 +25,12 @@ module _ (p : ℕ → Bool) where
   none_append (b ∷ s) t h k = (h.0, none_append s t h.1 k)
 
   pieces_cut : (s : List ℕ) (x : ℕ) (t : List ℕ) → None p s → p x ≡ true → pieces p (s ++ (x ∷ t)) ≡ s ∷ pieces p t
-  unfolding pieces if◌then◌else◌
+  unfolding pieces when◌then◌else◌
   pieces_cut [] x t h e = rw e
   pieces_cut (b ∷ s) x t h e = rw (h.0, pieces_cut s x t h.1 e)
 
   pieces_last : (s : List ℕ) → None p s → pieces p s ≡ s ∷ []
-  unfolding pieces if◌then◌else◌
+  unfolding pieces when◌then◌else◌
   pieces_last [] h = refl
   pieces_last (b ∷ s) h = rw (h.0, pieces_last s h.1)
 
@@ -159,7 +159,7 @@ line_kept [] = no_comment (digit 0 ∷ []) zero_word (λ e. omega arith) []
 line_kept (l ∷ ls) = no_comment (literal_word l) (literal_word_lem l) (literal_letter l) (space ∷ line_of ls)
 
 kept : (l : List ℕ) (ls : List (List ℕ)) → is_comment l ≡ false → words_in (l ∷ ls) ≡ words_of l ++ words_in ls
-unfolding words_in if◌then◌else◌
+unfolding words_in when◌then◌else◌
 kept l ls e = rw e
 
 -- ---- all clauses
@@ -168,7 +168,7 @@ all_words [] = []
 all_words (c ∷ cs) = clause_words c ++ all_words cs
 
 end_words : words_in (pieces is_line_feed []) ≡ []
-unfolding words_in words_of pieces if◌then◌else◌
+unfolding words_in words_of pieces when◌then◌else◌
 end_words = refl
 
 pub clauses_words : (cs : List (List (Literal ℕ))) → words_in (pieces is_line_feed (clauses_text cs)) ≡ all_words cs

@@ -4,7 +4,7 @@
 use Rattle.std.specs.Prelude.{ℕ, ◌+◌, ◌-◌, ◌*◌, Bool, true, false, ◌&&◌, ◌||◌, List, [], ◌∷◌, ◌++◌, eqb, leb, length}
 use Prim.Native.Char.{code}
 use Rattle.std.proofs.Math.Option.{Option, none, some}
-use Rattle.notation.specs.Notation.{if◌then◌else◌, if◌equals◌then◌else◌}
+use Rattle.notation.specs.Notation.{when◌then◌else◌, if◌equals◌then◌else◌}
 use Rattle.text.specs.Text.{ascii, space, line_feed}
 use Rattle.circuits.specs.Gates.{Literal, pos, neg, wire}
 
@@ -23,7 +23,7 @@ grow b (w ∷ ws) = (b ∷ w) ∷ ws
 -- the pieces of a text between the bytes that pass a test
 unfoldable pub pieces : (ℕ → Bool) → List ℕ → List (List ℕ)
 pieces p [] = [] ∷ []
-pieces p (b ∷ s) = if p b then [] ∷ pieces p s else grow b (pieces p s)
+pieces p (b ∷ s) = when p b then [] ∷ pieces p s else grow b (pieces p s)
 
 unfoldable pub is_line_feed : ℕ → Bool
 is_line_feed b = eqb b line_feed
@@ -47,7 +47,7 @@ is_comment (b ∷ s) = eqb b (code "c")
 -- the words of lines that are no comments
 unfoldable pub words_in : List (List ℕ) → List (List ℕ)
 words_in [] = []
-words_in (l ∷ ls) = if is_comment l then words_in ls else words_of l ++ words_in ls
+words_in (l ∷ ls) = when is_comment l then words_in ls else words_of l ++ words_in ls
 
 -- ---- numbers
 abbrev pub is_digit : ℕ → Bool
@@ -64,7 +64,7 @@ value_from n (b ∷ s) = value_from (10 * n + (b - code "0")) s
 
 unfoldable pub natural : List ℕ → Option ℕ
 natural [] = none
-natural (b ∷ s) = if all_digits (b ∷ s) then some (value_from 0 (b ∷ s)) else none
+natural (b ∷ s) = when all_digits (b ∷ s) then some (value_from 0 (b ∷ s)) else none
 
 abbrev pub positive : Option ℕ → Option (Literal ℕ)
 positive none = none
@@ -113,14 +113,14 @@ abbrev pub as_said : Option ℕ → Option ℕ → Option (List (List (Literal �
 as_said none n cs = none
 as_said (some v) none cs = none
 as_said (some v) (some n) none = none
-as_said (some v) (some n) (some cs) = if eqb (length cs) n && all_up_to v cs then some (record { variables = v; clauses = cs }) else none
+as_said (some v) (some n) (some cs) = when eqb (length cs) n && all_up_to v cs then some (record { variables = v; clauses = cs }) else none
 
 unfoldable pub dimacs_from : List (List ℕ) → Option Dimacs
 dimacs_from [] = none
 dimacs_from (p ∷ []) = none
 dimacs_from (p ∷ f ∷ []) = none
 dimacs_from (p ∷ f ∷ v ∷ []) = none
-dimacs_from (p ∷ f ∷ v ∷ n ∷ ws) = if same_text p (ascii "p") && same_text f (ascii "cnf") then as_said (natural v) (natural n) (clauses_from ws) else none
+dimacs_from (p ∷ f ∷ v ∷ n ∷ ws) = when same_text p (ascii "p") && same_text f (ascii "cnf") then as_said (natural v) (natural n) (clauses_from ws) else none
 
 -- what the grammar reads from a text; nothing from a text that is none of its own
 unfoldable pub dimacs_in : List ℕ → Option Dimacs

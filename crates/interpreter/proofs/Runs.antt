@@ -9,7 +9,7 @@ use native.Mathlib.Omega.{arith}
 use lib.ListN.{length, replicate}
 use lib.Dec.{eqb}
 use borrow.Author.Tests.{eq-eqb, ne_eqb, lt-ltb, le-ltb}
-use Rattle.notation.specs.Notation.{pick, with, if◌then◌else◌, if◌equals◌then◌else◌, if◌below◌then◌else◌}
+use Rattle.notation.specs.Notation.{pick, with, when◌then◌else◌, if◌equals◌then◌else◌, if◌below◌then◌else◌}
 use Rattle.semantics.specs.declared.Record.{Record}
 use Rattle.semantics.specs.declared.Outcome.{Outcome}
 use Rattle.semantics.specs.Numbers.{datum_record, variable_record, procedure_record, call_record, operator_record, let_record, if_record, abort_record, procedure_term, input_count}
@@ -256,11 +256,11 @@ module _ (room : ℕ) (rule : List ℕ) (i : ℕ) (e : Value) (k : ℕ) where
 
       module _ (v : Held) (f : value_in s v ≡ placed x.p e) {b : Bool} (g : b ≡ is_false (shown v)) where
         pub run_else : x.kind ≡ if_record → b ≡ true → Runs (stored_of room rule (d - 1) x.r e k) s k o y → Runs (stored_of room rule d i e k) s k o y
-        unfolding expression_stored if◌equals◌then◌else◌ if◌then◌else◌
+        unfolding expression_stored if◌equals◌then◌else◌ when◌then◌else◌
         run_else q z = runs_as (rw (q, tested s v f g, z) refl ∙ step)
 
         pub run_then : x.kind ≡ if_record → b ≡ false → Runs (stored_of room rule (d - 1) x.q e k) s k o y → Runs (stored_of room rule d i e k) s k o y
-        unfolding expression_stored if◌equals◌then◌else◌ if◌then◌else◌
+        unfolding expression_stored if◌equals◌then◌else◌ when◌then◌else◌
         run_then q z = runs_as (rw (q, tested s v f g, z) refl ∙ step)
 
       pub run_abort : x.kind ≡ abort_record → Runs (ended aborts k) s k o y → Runs (stored_of room rule d i e k) s k o y

@@ -6,7 +6,7 @@ use lib.Dec.{eqb}
 use borrow.Author.Tests.{ne_eqb, lt-ltb, le-ltb}
 use Rattle.words.specs.Words.{low_of, high_of}
 use Rattle.words.proofs.Words.{join_halves}
-use Rattle.notation.specs.Notation.{if◌then◌else◌, if◌equals◌then◌else◌, if◌below◌then◌else◌}
+use Rattle.notation.specs.Notation.{when◌then◌else◌, if◌equals◌then◌else◌, if◌below◌then◌else◌}
 use Rattle.operators.specs.Operators.{operands_of, gives_truth_of, operate_of}
 use Rattle.semantics.specs.declared.Outcome.{Outcome}
 use Rattle.semantics.specs.declared.Outcome.TheVariants.{Truth, Word, Procedure, Abort, Error, Refused}
@@ -51,36 +51,36 @@ pub ruleset made = (made_true, made_false, truth_link, made_word, word_link)
 -- what a code from 1 to 12 gives
 module _ (op x y : ℕ) {n : ℕ} (e : n ≡ operate_of op x y) {b : Bool} (t : b ≡ gives_truth_of op) {z : Value} where
   pub operation_truth : b ≡ true → z ≡ truth (eqb n 1) → z ≡ operation_value op x y
-  unfolding operation_value if◌then◌else◌
+  unfolding operation_value when◌then◌else◌
   operation_truth h q = rw (← t, h, ← e) q
 
   pub operation_word : b ≡ false → z ≡ word n → z ≡ operation_value op x y
-  unfolding operation_value if◌then◌else◌
+  unfolding operation_value when◌then◌else◌
   operation_word h q = rw (← t, h, ← e) q
 
 -- whether it has its words
 module _ (op : ℕ) (x y : Value) {a : Bool} (first : a ≡ is_aword x) where
   pub words_none : a ≡ false → false ≡ words_run op x y
-  unfolding words_run if◌then◌else◌
+  unfolding words_run when◌then◌else◌
   words_none h = rw (← first, h)
 
   pub words_one : a ≡ true → {n : ℕ} → n ≡ operands_of op → n ≡ 1 → true ≡ words_run op x y
-  unfolding words_run if◌then◌else◌ if◌equals◌then◌else◌
+  unfolding words_run when◌then◌else◌ if◌equals◌then◌else◌
   words_one h e q = rw (← first, h, ← e, q)
 
   pub words_two : a ≡ true → {n : ℕ} → n ≡ operands_of op → (n ≡ 1 → ⊥) → {b : Bool} → b ≡ is_aword y → b ≡ words_run op x y
-  unfolding words_run if◌then◌else◌ if◌equals◌then◌else◌
+  unfolding words_run when◌then◌else◌ if◌equals◌then◌else◌
   words_two h e q second = rw (← first, h, ← e, ne_eqb _ _ q) second
 
 -- what an operator gives
 module _ (op : ℕ) (x y : Value) where
   module _ (l : op < not_code) {b : Bool} (e : b ≡ words_run op x y) where
     pub operator_words : b ≡ true → {m n : ℕ} → m ≡ word_in x → n ≡ word_in y → {z : Value} → z ≡ operation_value op m n → gives z ≡ operator_run op x y
-    unfolding operator_run if◌then◌else◌ if◌below◌then◌else◌
+    unfolding operator_run when◌then◌else◌ if◌below◌then◌else◌
     operator_words h p q r = rw (lt-ltb _ _ l, ← e, h, ← p, ← q, r)
 
     pub operator_error : b ≡ false → errs ≡ operator_run op x y
-    unfolding operator_run if◌then◌else◌ if◌below◌then◌else◌
+    unfolding operator_run when◌then◌else◌ if◌below◌then◌else◌
     operator_error h = rw (lt-ltb _ _ l, ← e, h)
 
   module _ (l : not_code ≤ op) {b : Bool} {z : Value} (r : z ≡ truth b) where

@@ -7,7 +7,7 @@ use native.Mathlib.Omega.{arith}
 use native.Mathlib.Nat.{one-mul, zero-mul}
 use lib.Dec.{eqb, ltb}
 use borrow.Author.Tests.{eqb-true, eqb-false, ltb-true, lt-ltb}
-use Rattle.notation.specs.Notation.{pick, with, if◌then◌else◌, if◌equals◌then◌else◌, if◌below◌then◌else◌}
+use Rattle.notation.specs.Notation.{pick, with, when◌then◌else◌, if◌equals◌then◌else◌, if◌below◌then◌else◌}
 use Rattle.words.specs.Words.{width, sum_of, difference_of, product_of, and_of, or_of, xor_of, left_of, right_of, ones_of, zeros_of}
 use Rattle.operators.specs.Operators.{row_of, operands_of, gives_truth_of, bit_of, operate_of}
 use Rattle.semantics.specs.declared.Term.{Term}
@@ -115,7 +115,7 @@ module _ (τ : Wire → Bool) (o : τ wire_true ≡ true) where
   Works op = Holds τ (operator_gates levels op) → O τ ≡ operation_reading op (X τ) (Y τ)
 
   works : (op : ℕ) → (op ≡ 0 → ⊥) → op < not_code → Works op
-  unfolding operator_gates operation_reading operands_are_words result_reading operands_of row_of gives_truth_of operate_of with if◌then◌else◌ if◌equals◌then◌else◌
+  unfolding operator_gates operation_reading operands_are_words result_reading operands_of row_of gives_truth_of operate_of with when◌then◌else◌ if◌equals◌then◌else◌
   works =
       by_code Works
       (λ h. of_words τ (sum_of width) (sum_op levels τ o h))
@@ -199,11 +199,11 @@ module _ (τ : Wire → Bool) (o : τ wire_true ≡ true) where
           go v e = rw e
 
       shift_left : Holds τ (shift_by_gates levels shifted_up w) → O τ ≡ operator_reading left_code (X τ) (Y τ)
-      unfolding operator_reading operation_reading operands_are_words result_reading operands_of row_of gives_truth_of operate_of with if◌then◌else◌ if◌equals◌then◌else◌ if◌below◌then◌else◌
+      unfolding operator_reading operation_reading operands_are_words result_reading operands_of row_of gives_truth_of operate_of with when◌then◌else◌ if◌equals◌then◌else◌ if◌below◌then◌else◌
       shift_left h = by_constant_lem (left_of width) (left_by levels τ o w h)
 
       shift_right : Holds τ (shift_by_gates levels shifted_down w) → O τ ≡ operator_reading right_code (X τ) (Y τ)
-      unfolding operator_reading operation_reading operands_are_words result_reading operands_of row_of gives_truth_of operate_of with if◌then◌else◌ if◌equals◌then◌else◌ if◌below◌then◌else◌
+      unfolding operator_reading operation_reading operands_are_words result_reading operands_of row_of gives_truth_of operate_of with when◌then◌else◌ if◌equals◌then◌else◌ if◌below◌then◌else◌
       shift_right h = by_constant_lem (right_of width) (right_by levels τ o w h)
 
     -- An operator's gates say what it reads as.

@@ -5,7 +5,7 @@ use mathlib.Core.List.{[], ◌∷◌}
 use Prim.Native.Nat.{ℕ, ◌^◌, ◌<◌}
 use native.Mathlib.Omega.{arith}
 use lib.Dec.{eqb}
-use Rattle.notation.specs.Notation.{pick, if◌then◌else◌, if◌equals◌then◌else◌}
+use Rattle.notation.specs.Notation.{pick, when◌then◌else◌, if◌equals◌then◌else◌}
 use Rattle.words.specs.Words.{width}
 use Rattle.words.proofs.Words.{join_halves}
 use Rattle.semantics.specs.declared.Reading.{Reading}
@@ -117,7 +117,7 @@ module _ (τ : ℕ → Bool) (r : Result) where
   U = held (wires τ r.value)
 
   pub goal_sound : (g : Goal) → NamesWord g → clauses_true τ (goal_clauses r g) ≡ true → result_outcome S T r.halted U ≡ goal_outcome g
-  unfolding goal_clauses result_outcome if◌then◌else◌
+  unfolding goal_clauses result_outcome when◌then◌else◌
   goal_sound Errs w e = go r.halted S T e
     where
       go : (h s t : Bool) → clauses_true τ (pick h ((pos (truth_variable r.state.assumed) ∷ neg (truth_variable r.state.asserted) ∷ []) ∷ []) ((neg (truth_variable r.state.asserted) ∷ []) ∷ [])) ≡ true
@@ -154,7 +154,7 @@ module _ (τ : ℕ → Bool) (r : Result) where
           gives false t c q e = never e
 
   pub goal_complete : (g : Goal) → NamesWord g → result_outcome S T r.halted U ≡ goal_outcome g → clauses_true τ (goal_clauses r g) ≡ true
-  unfolding goal_clauses result_outcome if◌then◌else◌
+  unfolding goal_clauses result_outcome when◌then◌else◌
   goal_complete Errs w e = go r.halted e
     where
       go : (h : Bool) → pick T (pick S (pick h Error (value_outcome U)) Abort) Error ≡ Error

@@ -7,7 +7,7 @@ use native.Mathlib.Omega.{arith}
 use lib.ListN.{length, get_or}
 use lib.Dec.{eqb, ltb}
 use borrow.Author.Tests.{eqb-true, eqb-false, eq-eqb, ltb-true, ltb-false}
-use Rattle.notation.specs.Notation.{pick, with, if◌then◌else◌, if◌equals◌then◌else◌, if◌below◌then◌else◌}
+use Rattle.notation.specs.Notation.{pick, with, when◌then◌else◌, if◌equals◌then◌else◌, if◌below◌then◌else◌}
 use Rattle.operators.specs.Operators.{gives_truth_of}
 use Rattle.semantics.specs.declared.Term.{Term}
 use Rattle.semantics.specs.declared.Reading.{Reading}
@@ -45,8 +45,8 @@ module _ (P : Reading → Type 0) {x y : Reading} where
       go true = f
       go false = g
 
-  of_if : (b : Bool) → P x → P y → P (if b then x else y)
-  unfolding if◌then◌else◌
+  of_if : (b : Bool) → P x → P y → P (when b then x else y)
+  unfolding when◌then◌else◌
   of_if true f g = f
   of_if false f g = g
 
@@ -57,7 +57,7 @@ a_truth : (n : ℕ) → IsTruth (reading_of truth_term n)
 a_truth n = record { is = refl }
 
 result_truth : (op w : ℕ) → gives_truth_of op ≡ true → IsTruth (result_reading op w)
-unfolding result_reading with if◌then◌else◌
+unfolding result_reading with when◌then◌else◌
 result_truth op w h = rw h (a_truth w)
 
 operator_truth : (op : ℕ) (x y : Reading) → gives_truth_of op ≡ true → IsTruth (operator_reading op x y)
@@ -161,7 +161,7 @@ module _ (n : ℕ) (us : List Term) (t : Term) (laid : laid_out n us t ≡ true)
     operator_same : t.kind ≡ operator_term → operator_reading t.op (f t.a) (f t.b) ≡ operator_reading t.op (g t.a) (g t.b)
     operator_same k = let l = operands_lower us t.a t.b t.op (operator_laid n us t laid k) in rw (same t.a l.first, same t.b l.second)
 
-    choice_same : t.kind ≡ choice_term → (if is_true (f t.a) then f t.b else f t.c) ≡ (if is_true (g t.a) then g t.b else g t.c)
+    choice_same : t.kind ≡ choice_term → (when is_true (f t.a) then f t.b else f t.c) ≡ (when is_true (g t.a) then g t.b else g t.c)
     choice_same k = let l = choice_names n us t laid k in rw (same t.a l.0.low, same t.b l.1.low, same t.c l.2.low)
 
     reading_same : term_reading ns t (f t.a) (f t.b) (f t.c) ≡ term_reading ns t (g t.a) (g t.b) (g t.c)

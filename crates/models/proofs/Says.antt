@@ -8,7 +8,7 @@ use native.Mathlib.Nat.{pow-suc}
 use lib.ListN.{get_or}
 use lib.Dec.{eqb, ltb}
 use borrow.Author.Tests.{eqb-true, eqb-false, eq-eqb, ne_eqb, ltb-true}
-use Rattle.notation.specs.Notation.{pick, with, if◌then◌else◌, if◌equals◌then◌else◌}
+use Rattle.notation.specs.Notation.{pick, with, when◌then◌else◌, if◌equals◌then◌else◌}
 use Rattle.words.specs.Words.{width}
 use Rattle.operators.specs.Operators.{bit_of}
 use Rattle.semantics.specs.declared.Term.{Term}
@@ -143,8 +143,8 @@ module _ (ns : List ℕ) (words : Words ns) (n : ℕ) (us : List Term) (t u : Te
       by_test (eqb t.op 0) (names_truth us t.a && (names_value us t.b && names_value us t.c)) false (rw k at laid)
       (λ i e. both (names_truth us t.a) (names_value us t.b && names_value us t.c) e λ p q. p) (λ i e. never e)
 
-  a_choice : t.kind ≡ choice_term → Says (choices 0 owned) (if is_true (X τ) then Y τ else Z τ)
-  unfolding if◌then◌else◌
+  a_choice : t.kind ≡ choice_term → Says (choices 0 owned) (when is_true (X τ) then Y τ else Z τ)
+  unfolding when◌then◌else◌
   a_choice k = record { says = λ h. choice_is τ h ∙ rw (truth_held (λ i. τ (wire_a i)) (held_truth (λ i. τ (wire_a i)) (first-truth (guard k)))) (go (τ (wire_a 2))) }
     where
       go : (b : Bool) → cond b (Y τ) (Z τ) ≡ pick b (Y τ) (Z τ)

@@ -7,7 +7,7 @@ use Prim.Native.Nat.{ℕ, zero, suc, ◌≤◌, ◌<◌}
 use native.Mathlib.Omega.{arith}
 use lib.ListN.{length}
 use borrow.Author.Tests.{le-ltb}
-use Rattle.notation.specs.Notation.{pick, if◌then◌else◌, if◌below◌then◌else◌, unless◌then◌else◌}
+use Rattle.notation.specs.Notation.{pick, when◌then◌else◌, if◌below◌then◌else◌, unless◌then◌else◌}
 use Rattle.semantics.specs.declared.Term.{Term}
 use Rattle.semantics.specs.declared.Session.{Session}
 use Rattle.semantics.specs.declared.Result.{Result}
@@ -48,7 +48,7 @@ pub record Named (ts : List Term) (r : Result) : Type 0 where
   pub value : r.halted ≡ false → r.value < length ts
 
 pub named_result : (ts : List Term) (r : Result) → result_taken ts r ≡ true → Named ts r
-unfolding result_taken if◌then◌else◌
+unfolding result_taken when◌then◌else◌
 named_result ts r h =
     both (names_truth ts r.state.assumed) _ h λ a h.
     both (names_truth ts r.state.asserted) _ h λ b h.
@@ -79,7 +79,7 @@ module _ (x : Session) (s : List ℕ) (r : Result) (g : Goal) (sixteen : length 
         ap is_true (sym (sees k h.low)) ∙ truth_held (wires τ k) (held_truth (wires τ k) (ap is_truth (sees k h.low) ∙ truth_reads ns ts k h))
 
     outcome : read_in (readings ns ts) r ≡ result_outcome (τ (truth_variable r.state.assumed)) (τ (truth_variable r.state.asserted)) r.halted (held (wires τ r.value))
-    unfolding read_in result_outcome if◌then◌else◌
+    unfolding read_in result_outcome when◌then◌else◌
     outcome =
         let a = named_result ts r result in
         rw (sees_truth r.state.assumed a.assumed, sees_truth r.state.asserted a.asserted) (go r.halted refl a.value)

@@ -9,7 +9,7 @@ use native.Mathlib.Omega.{arith}
 use lib.Dec.{eqb}
 use lib.ListN.{length, get_or}
 use borrow.Author.Tests.{eqb-true, eqb-false}
-use Rattle.notation.specs.Notation.{pick, if◌then◌else◌, up_to, every, In, here, there}
+use Rattle.notation.specs.Notation.{pick, when◌then◌else◌, up_to, every, In, here, there}
 
 -- what passed conditions say
 pub pick_both : (x y : Bool) → pick x y false ≡ true → (x ≡ true) × (y ≡ true)
@@ -35,11 +35,11 @@ module _ (f : ℕ → Bool) where
   up_start = refl
 
   pub up_next : (i : ℕ) → up_to i f ≡ true → f i ≡ true → up_to (i + 1) f ≡ true
-  unfolding up_to if◌then◌else◌
+  unfolding up_to when◌then◌else◌
   up_next i h g = rw (add-one, up_to, h, g)
 
   up_more : (i k : ℕ) → f i ≡ false → up_to (suc k + i) f ≡ false
-  unfolding up_to if◌then◌else◌
+  unfolding up_to when◌then◌else◌
   up_more i zero g = let e : suc zero + i ≡ suc i = omega arith in rw (e, up_to) (go (up_to i f))
     where
       go : (b : Bool) → pick b (f i) false ≡ false
@@ -55,12 +55,12 @@ module _ (f : ℕ → Bool) where
   up_end i n h l k = let e : n ≡ i = omega arith in rw e (sym h)
 
   pub up_make : (n : ℕ) → ((k : ℕ) → k < n → f k ≡ true) → up_to n f ≡ true
-  unfolding up_to if◌then◌else◌
+  unfolding up_to when◌then◌else◌
   up_make zero h = refl
   up_make (suc n) h = rw (up_make n (λ k l. h k (omega arith))) (h n (omega arith))
 
   pub up_all : (n : ℕ) → up_to n f ≡ true → (k : ℕ) → k < n → f k ≡ true
-  unfolding up_to if◌then◌else◌
+  unfolding up_to when◌then◌else◌
   up_all zero h k l = absurd (omega arith)
   up_all (suc n) h k l = let b = pick_both (up_to n f) (f n) h in last (λ j. f j ≡ true) n (up_all n b.0) b.1 k (omega arith)
 
@@ -73,12 +73,12 @@ up_same (suc n) f g h = rw (up_same n f g (λ i l. h i (omega arith)), h n (omeg
 -- ---- every element
 module _ {A : Type 0} (f : A → Bool) (d : A) where
   pub every_all : (xs : List A) → ((k : ℕ) → k < length xs → f (get_or xs k d) ≡ true) → true ≡ every f xs
-  unfolding every if◌then◌else◌
+  unfolding every when◌then◌else◌
   every_all [] h = refl
   every_all (x ∷ xs) h = rw (h 0 (omega arith)) (every_all xs (λ k l. h (suc k) (omega arith)))
 
   pub every_miss : (xs : List A) (k : ℕ) → k < length xs → f (get_or xs k d) ≡ false → false ≡ every f xs
-  unfolding every if◌then◌else◌
+  unfolding every when◌then◌else◌
   every_miss [] k l e = absurd (omega arith)
   every_miss (x ∷ xs) zero l e = rw e
   every_miss (x ∷ xs) (suc k) l e = go (f x) (every_miss xs k (omega arith) e)
@@ -88,13 +88,13 @@ module _ {A : Type 0} (f : A → Bool) (d : A) where
       go false r = refl
 
   pub every_at : (xs : List A) (k : ℕ) → every f xs ≡ true → k < length xs → f (get_or xs k d) ≡ true
-  unfolding every if◌then◌else◌
+  unfolding every when◌then◌else◌
   every_at [] k h l = absurd (omega arith)
   every_at (x ∷ xs) zero h l = (pick_both (f x) (every f xs) h).0
   every_at (x ∷ xs) (suc k) h l = every_at xs k (pick_both (f x) (every f xs) h).1 (omega arith)
 
 pub every_in : {A : Type 0} (f : A → Bool) {x : A} (xs : List A) → every f xs ≡ true → In x xs → f x ≡ true
-unfolding every if◌then◌else◌
+unfolding every when◌then◌else◌
 every_in f (x ∷ xs) h here = (pick_both (f x) (every f xs) h).0
 every_in f (y ∷ xs) h (there i) = every_in f xs (pick_both (f y) (every f xs) h).1 i
 every_in {A = A} f [] h x3 = elim x3 [ ]

@@ -5,7 +5,7 @@ use mathlib.Core.Bool.{Bool, true, false, not, ◌&&◌, ◌||◌}
 use Prim.Native.Nat.{ℕ, ◌<◌, ◌≤◌}
 use lib.Dec.{eqb, ltb, leb}
 use borrow.Author.Tests.{eq-eqb, ne_eqb, lt-ltb, le-ltb, le-leb, lt-leb}
-use Rattle.notation.specs.Notation.{if◌then◌else◌, if◌equals◌then◌else◌, if◌below◌then◌else◌, unless◌then◌else◌, with}
+use Rattle.notation.specs.Notation.{when◌then◌else◌, if◌equals◌then◌else◌, if◌below◌then◌else◌, unless◌then◌else◌, with}
 
 module _ {A : Type 0} (x y : A) {z : A} where
   pub val_eq : (i j : ℕ) → i ≡ j → z ≡ x → z ≡ (if i equals j then x else y)
@@ -29,21 +29,21 @@ module _ {A : Type 0} (x y : A) {z : A} where
   unfolding if◌below◌then◌else◌
   val_ge i j h g = rw (le-ltb _ _ h) g
 
-  pub val_true : (b : Bool) → b ≡ true → z ≡ x → z ≡ (if b then x else y)
-  unfolding if◌then◌else◌
+  pub val_true : (b : Bool) → b ≡ true → z ≡ x → z ≡ (when b then x else y)
+  unfolding when◌then◌else◌
   val_true b h g = rw h g
 
-  pub val_false : (b : Bool) → b ≡ false → z ≡ y → z ≡ (if b then x else y)
-  unfolding if◌then◌else◌
+  pub val_false : (b : Bool) → b ≡ false → z ≡ y → z ≡ (when b then x else y)
+  unfolding when◌then◌else◌
   val_false b h g = rw h g
 
   -- where the test is the answer of a call
-  pub val_said : (v : Bool) {b : Bool} → b ≡ v → b ≡ true → z ≡ x → z ≡ (if v then x else y)
-  unfolding if◌then◌else◌
+  pub val_said : (v : Bool) {b : Bool} → b ≡ v → b ≡ true → z ≡ x → z ≡ (when v then x else y)
+  unfolding when◌then◌else◌
   val_said v e h g = rw (← e, h) g
 
-  pub val_denied : (v : Bool) {b : Bool} → b ≡ v → b ≡ false → z ≡ y → z ≡ (if v then x else y)
-  unfolding if◌then◌else◌
+  pub val_denied : (v : Bool) {b : Bool} → b ≡ v → b ≡ false → z ≡ y → z ≡ (when v then x else y)
+  unfolding when◌then◌else◌
   val_denied v e h g = rw (← e, h) g
 
   -- where the number is the answer of a call

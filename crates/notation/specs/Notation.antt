@@ -7,12 +7,12 @@ abbrev pub pick : {A : Type 0} → Bool → A → A → A
 pick true x y = x
 pick false x y = y
 
-infixr 5 if◌then◌else◌
+infixr 5 when◌then◌else◌
 infixr 5 if◌equals◌then◌else◌
 infixr 5 if◌below◌then◌else◌
 infixr 5 unless◌then◌else◌
-unfoldable pub if◌then◌else◌ : {A : Type 0} → Bool → A → A → A
-if b then x else y = pick b x y
+unfoldable pub when◌then◌else◌ : {A : Type 0} → Bool → A → A → A
+when b then x else y = pick b x y
 
 -- by whether i = j
 unfoldable pub if◌equals◌then◌else◌ : {A : Type 0} → ℕ → ℕ → A → A → A
@@ -33,12 +33,12 @@ with v f = f v
 -- f of every number below n
 unfoldable pub up_to : ℕ → (ℕ → Bool) → Bool
 up_to zero f = true
-up_to (suc n) f = if up_to n f then f n else false
+up_to (suc n) f = when up_to n f then f n else false
 
 -- f of every element
 unfoldable pub every : {A : Type 0} → (A → Bool) → List A → Bool
 every f [] = true
-every f (x ∷ xs) = if f x then every f xs else false
+every f (x ∷ xs) = when f x then every f xs else false
 
 -- an element of a list
 pub data In {A : Type 0} (x : A) : List A → Type 0 where

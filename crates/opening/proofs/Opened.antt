@@ -7,7 +7,7 @@ use native.Mathlib.Omega.{arith}
 use lib.ListN.{length, replicate, length-replicate}
 use lib.Dec.{eqb, ltb}
 use borrow.Author.Tests.{eqb-true, ltb-false}
-use Rattle.notation.specs.Notation.{pick, with, if◌then◌else◌, unless◌then◌else◌, every}
+use Rattle.notation.specs.Notation.{pick, with, when◌then◌else◌, unless◌then◌else◌, every}
 use Rattle.semantics.specs.declared.Term.{Term}
 use Rattle.semantics.specs.declared.Input.{Input}
 use Rattle.semantics.specs.declared.Session.{Session}
@@ -89,18 +89,18 @@ module _ (xs : List Input) (s w : List ℕ) (ew : w ≡ wiped s 0) (z : bad_tabl
       go x m (roomy {us = us} {a = a} _ _ _ _) h = (answered r (terms_in y c) us e a h).number
 
   pub opened : ◌≡◌ {A = Opened × List ℕ} (record { refusal = 0; session = session_of xs c }, y) (open_of xs s)
-  unfolding open_of if◌then◌else◌ unless◌then◌else◌ with
+  unfolding open_of when◌then◌else◌ unless◌then◌else◌ with
   opened = rw (z, t, ← terms, terms_length y c, ← image)
 
 -- ---- as the code comes to it
 module _ (xs : List Input) (s : List ℕ) {b : Bool} (eb : b ≡ bad_table_size (length s)) where
   pub refused_size : b ≡ true → {v : Session} → v ≡ session_of xs 0 → ◌≡◌ {A = Opened × List ℕ} (record { refusal = table_size; session = v }, s) (open_of xs s)
-  unfolding open_of if◌then◌else◌
+  unfolding open_of when◌then◌else◌
   refused_size h ev = rw (ev, ← eb, h)
 
   module _ (h : b ≡ false) {d : Bool} (ed : d ≡ every input_taken xs) where
     pub refused_input : d ≡ false → {v : Session} → v ≡ session_of xs 0 → ◌≡◌ {A = Opened × List ℕ} (record { refusal = bad_input; session = v }, s) (open_of xs s)
-    unfolding open_of if◌then◌else◌ unless◌then◌else◌
+    unfolding open_of when◌then◌else◌ unless◌then◌else◌
     refused_input k ev = rw (ev, ← eb, h, ← ed, k)
 
     pub opened_now : d ≡ true → length xs ≡ 16 → {w : List ℕ} → w ≡ wiped s 0 → {r c e : ℕ} {y : List ℕ} → Gives (open_all xs) w 0 r c 0 e y

@@ -5,7 +5,7 @@ use mathlib.Core.List.{List}
 use Prim.Native.Nat.{ℕ, ◌<◌, ◌≤◌}
 use lib.ListN.{length, replicate}
 use borrow.Author.Tests.{lt-ltb, le-ltb}
-use Rattle.notation.specs.Notation.{with, if◌then◌else◌, if◌below◌then◌else◌, unless◌then◌else◌, every}
+use Rattle.notation.specs.Notation.{with, when◌then◌else◌, if◌below◌then◌else◌, unless◌then◌else◌, every}
 use Rattle.semantics.specs.declared.Input.{Input}
 use Rattle.semantics.specs.declared.Result.{Result}
 use Rattle.semantics.specs.declared.Session.{Session}
@@ -66,10 +66,10 @@ module _ (xs : List Input) (numbers rule : List ℕ) (allowance : ℕ) (store : 
 
       module _ (l : n ≤ 0) {e : Bool} (ee : e ≡ bad_depth allowance) where
         pub run_depth : e ≡ true → o ≡ Refused bad_allowance → (o, y) ≡ run_plainly_of xs numbers rule allowance store
-        unfolding run_plainly_of run_outcome unless◌then◌else◌ with if◌below◌then◌else◌ if◌then◌else◌
+        unfolding run_plainly_of run_outcome unless◌then◌else◌ with if◌below◌then◌else◌ when◌then◌else◌
         run_depth m eo = rw (eo, ey, ← eb, h, ← ed, k, ← en, le-ltb 0 n l, ← ee, m)
 
         pub run_whole : e ≡ false → o ≡ stored_outcome (started_of (places_in (length store)) rule allowance (inputs_bound xs numbers))
             → (o, y) ≡ run_plainly_of xs numbers rule allowance store
-        unfolding run_plainly_of run_outcome unless◌then◌else◌ with if◌below◌then◌else◌ if◌then◌else◌
+        unfolding run_plainly_of run_outcome unless◌then◌else◌ with if◌below◌then◌else◌ when◌then◌else◌
         run_whole m eo = rw (eo, ey, ← eb, h, ← ed, k, ← en, le-ltb 0 n l, ← ee, m)

@@ -3,3 +3,4 @@ pub mod Told
 pub mod Written
 pub mod Case
 pub mod Longer
+pub mod Filled

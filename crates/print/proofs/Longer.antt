@@ -10,7 +10,7 @@ use lib.ListN.{length, take, drop, get_or, replicate, length-drop}
 use lib.Seq.{take_all, length-take-le, get_or-take}
 use borrow.Author.Tests.{leb-true, leb-false, le-leb, lt-ltb}
 use Rattle.words.specs.Words.{word_bytes, join_of}
-use Rattle.notation.specs.Notation.{with, if◌then◌else◌, if◌equals◌then◌else◌, if◌below◌then◌else◌, unless◌then◌else◌}
+use Rattle.notation.specs.Notation.{with, when◌then◌else◌, if◌equals◌then◌else◌, if◌below◌then◌else◌, unless◌then◌else◌}
 use Rattle.notation.proofs.Every.{up_same}
 use Rattle.semantics.specs.declared.Session.{Session}
 use Rattle.semantics.specs.declared.Opened.{Opened}
@@ -28,7 +28,7 @@ use Rattle.print.specs.Read.{Read}
 -- ---- a rule that is too long is refused, whatever its bytes
 
 too_long : (rule : List ℕ) → rule_bytes < length rule → rule_refusal_of rule ≡ rule_size
-unfolding rule_refusal_of if◌then◌else◌ bad_rule_size
+unfolding rule_refusal_of when◌then◌else◌ bad_rule_size
 too_long rule h = go (eqb (length rule) 0) refl
   where
     go : (b : Bool) → eqb (length rule) 0 ≡ b → rule_refusal_of rule ≡ rule_size
@@ -97,7 +97,7 @@ module _ (n : ℕ) (s : List ℕ) (enough : input_bytes + rule_bytes < n) (long 
 
   -- all lines
   same_printed : printed_of cut ≡ printed_of s
-  unfolding printed_of with if◌then◌else◌
+  unfolding printed_of with when◌then◌else◌
   same_printed = go (inputs_whole s) refl
     where
       go : (b : Bool) → inputs_whole s ≡ b → printed_of cut ≡ printed_of s

@@ -7,7 +7,7 @@ use native.Mathlib.Omega.{arith}
 use lib.Dec.{ltb, leb}
 use lib.ListN.{length}
 use borrow.Author.Tests.{ltb-false}
-use Rattle.notation.specs.Notation.{pick, with, if◌then◌else◌, if◌below◌then◌else◌, unless◌then◌else◌}
+use Rattle.notation.specs.Notation.{pick, with, when◌then◌else◌, if◌below◌then◌else◌, unless◌then◌else◌}
 use Rattle.semantics.specs.declared.Term.{Term}
 use Rattle.semantics.specs.declared.Result.{Result}
 use Rattle.semantics.specs.declared.Session.{Session}
@@ -27,7 +27,7 @@ use Rattle.typing.proofs.Ruled.{ruled}
 use Rattle.lines.specs.Room.{Told}
 
 answer_told : (r : Result) (d n : ℕ) → n ≤ term_limit → Told (answer_of r d) n
-unfolding if◌then◌else◌
+unfolding when◌then◌else◌
 answer_told r d n h = go r.halted refl
   where
     go : (b : Bool) → r.halted ≡ b → Told (answer_of r d) n
@@ -57,9 +57,9 @@ module _ (rule : List ℕ) (allowance : ℕ) (x : Session) (s : List ℕ) (n : l
         go w y (did {us = us} {a = a} {u = u} g q) = answer_told a u (length us) g.fit.short
         go w y (not_did _) = refused_fine _
 
-    accepted_fine : (k : ℕ) → rule_refusal_of rule ≡ k → Fine ((if 0 below k then refused_by k else if bad_depth allowance then refused_by bad_allowance else
-        if leb rule_limit x.accepted then refused_by rules_spent else if x.halted then halted_again else evaluated rule allowance) x s)
-    unfolding if◌below◌then◌else◌ if◌then◌else◌
+    accepted_fine : (k : ℕ) → rule_refusal_of rule ≡ k → Fine ((if 0 below k then refused_by k else when bad_depth allowance then refused_by bad_allowance else
+        when leb rule_limit x.accepted then refused_by rules_spent else when x.halted then halted_again else evaluated rule allowance) x s)
+    unfolding if◌below◌then◌else◌ when◌then◌else◌
     accepted_fine k ek = go (ltb 0 k) (bad_depth allowance) (leb rule_limit x.accepted) x.halted refl
       where
         go : (a b c d : Bool) → ltb 0 k ≡ a → Fine (pick a (refused_by k) (pick b (refused_by bad_allowance) (pick c (refused_by rules_spent) (pick d halted_again (evaluated rule allowance)))) x s)

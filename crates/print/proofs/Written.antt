@@ -7,7 +7,7 @@ use native.Mathlib.Omega.{arith}
 use lib.ListN.{length, take, drop, replicate, length-drop}
 use lib.Seq.{take_all}
 use borrow.Author.Tests.{eq-eqb, ne_eqb}
-use Rattle.notation.specs.Notation.{with, if◌then◌else◌, if◌equals◌then◌else◌, unless◌then◌else◌, every}
+use Rattle.notation.specs.Notation.{with, when◌then◌else◌, if◌equals◌then◌else◌, unless◌then◌else◌, every}
 use Rattle.semantics.specs.declared.Input.{Input}
 use Rattle.semantics.specs.declared.Opened.{Opened}
 use Rattle.semantics.specs.declared.Session.{Session}
@@ -22,7 +22,7 @@ use Rattle.text.specs.Appends.{Writes}
 use Rattle.print.proofs.Taken.{inputs_length_lem}
 
 open_inputs : (xs : List Input) (z : List ℕ) → (open_of xs z).0.session.inputs ≡ xs
-unfolding open_of if◌then◌else◌ unless◌then◌else◌ with
+unfolding open_of when◌then◌else◌ unless◌then◌else◌ with
 open_inputs xs z = go (bad_table_size (length z)) (every input_taken xs) refl refl
   where
     go : (a b : Bool) → bad_table_size (length z) ≡ a → every input_taken xs ≡ b → (open_of xs z).0.session.inputs ≡ xs
@@ -37,17 +37,17 @@ sixteen_inputs s {xs} ex z eo = ap (λ (p : Opened × List ℕ). length p.0.sess
 
 module _ (s : List ℕ) {y : List ℕ} {r : ℕ} {w : Bool} (ew : w ≡ inputs_whole s) where
   pub written_cut : w ≡ false → Writes (line_text (refusal bad_input)) y r → Writes (written_of s) y r
-  unfolding written_of printed_of with if◌then◌else◌ lines_text
+  unfolding written_of printed_of with when◌then◌else◌ lines_text
   written_cut h p = rw (← ew, h, append-nil) p
 
   module _ (h : w ≡ true) {xs : List Input} (ex : xs ≡ inputs_from s 0 input_count) {x : Opened} {t : List ℕ}
       (eo : ◌≡◌ {A = Opened × List ℕ} (x, t) (open_of xs (replicate most_table 0))) where
     pub written_refused : (x.refusal ≡ 0 → ⊥) → Writes (line_text (refusal x.refusal)) y r → Writes (written_of s) y r
-    unfolding written_of printed_of opening_lines with if◌then◌else◌ if◌equals◌then◌else◌ lines_text
+    unfolding written_of printed_of opening_lines with when◌then◌else◌ if◌equals◌then◌else◌ lines_text
     written_refused k p = rw (← ew, h, ← ex, ← eo, ne_eqb _ _ k, append-nil) p
 
     pub written_evaluated : x.refusal ≡ 0 → Writes (lines_text (evaluation_lines (take (length s - input_bytes) (drop input_bytes s)) x.session t)) y r → Writes (written_of s) y r
-    unfolding written_of printed_of opening_lines with if◌then◌else◌ if◌equals◌then◌else◌
+    unfolding written_of printed_of opening_lines with when◌then◌else◌ if◌equals◌then◌else◌
     written_evaluated k p = rw (← ew, h, ← ex, ← eo, eq-eqb _ _ k) (rw (take_all (length s - input_bytes) (drop input_bytes s) (rw (length-drop input_bytes s) (omega arith))) at p)
 
 -- a rule evaluated, and its lines

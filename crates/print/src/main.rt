@@ -1,11 +1,13 @@
 // The printing program (document 01, "The printed case"): reads sixteen inputs and a rule, evaluates the rule, and
 // writes how that ended and the new terms. `printed` does the work, between a slice and an array, and `printed_from`
-// promises every byte for the whole input, of which a buffer holds the beginning. What no contract can say is what the
-// operating system hands over and takes: `main` reads until its buffer is full, the input ends or a read fails, and
-// writes until all is written or a write fails.
+// promises every byte for the whole input, of which a buffer holds the beginning. `streams::run` reads until its buffer is
+// full or the input ends and writes until all is written, and promises that over any reader and writer whose bytes can be
+// told; a read or a write that fails ends it with that error. What no contract can say is what the operating system hands
+// over and takes.
 #![tactic(auto)]
 
 mod inputs;
+mod streams;
 
 ghost use Rattle.std.specs.Prelude.{◌≡◌, List, ℕ, length, take};
 ghost use Rattle.semantics.specs.Numbers.{input_count};
@@ -16,9 +18,9 @@ ghost use Rattle.lines.specs.Lines.{lines_text};
 ghost use Rattle.print.specs.Written.{written_of};
 ghost use Rattle.print.specs.Read.{Read};
 
-use libc::{STDIN_FILENO, STDOUT_FILENO};
 use lines::OUTPUT;
 use semantics::{Session, numbers};
+use std::io;
 
 const ALLOWANCE: u16 = 100;
 
@@ -66,10 +68,6 @@ pub fn printed_from(buffer: &[u8; INPUT], n: usize, out: &mut [u8; OUTPUT]) -> u
     printed(bytes, out)
 }
 
-fn main() {
-    let mut buffer = [0u8; INPUT];
-    let n = io::read_full(STDIN_FILENO, &mut buffer);
-    let mut out = [0u8; OUTPUT];
-    let k = printed_from(&buffer, n, &mut out);
-    io::write_all(STDOUT_FILENO, &out[..k]);
+fn main(rt: HostRuntime) -> io::Result<()> {
+    streams::run(&mut rt.reader(), &mut io::writer(&rt))
 }

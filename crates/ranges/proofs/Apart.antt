@@ -1,6 +1,6 @@
 -- Equal on spans, by computation: those that have no word in common, and those that meet. Assumes nothing.
 use mathlib.Core.Path.{◌≡◌, refl}
-use Rattle.notation.specs.Notation.{with, if◌then◌else◌, if◌equals◌then◌else◌, if◌below◌then◌else◌}
+use Rattle.notation.specs.Notation.{with, when◌then◌else◌, if◌equals◌then◌else◌, if◌below◌then◌else◌}
 use Rattle.semantics.specs.Spans.{truth_report, word_report, both_truths, are_spans}
 use Rattle.ranges.specs.Ranges.{equal_range}
 
@@ -14,5 +14,5 @@ pub record Apart : Type 0 where
   pub of_a_truth : equal_range (truth_report 0 0) (word_report 6 9) ≡ both_truths
 
 pub apart_instances : Apart
-unfolding equal_range are_spans with if◌then◌else◌ if◌equals◌then◌else◌ if◌below◌then◌else◌
+unfolding equal_range are_spans with when◌then◌else◌ if◌equals◌then◌else◌ if◌below◌then◌else◌
 apart_instances = record { ends_below = refl; starts_above = refl; ends_at = refl; starts_at = refl; of_a_truth = refl }

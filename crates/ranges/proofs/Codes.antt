@@ -6,7 +6,7 @@ use native.Mathlib.Omega.{arith}
 use lib.Count.{ones-le, leading_le}
 use lib.Dec.{eqb, ltb}
 use borrow.Author.Tests.{eqb-true, ltb-true}
-use Rattle.notation.specs.Notation.{pick, with, if◌then◌else◌, if◌equals◌then◌else◌, if◌below◌then◌else◌}
+use Rattle.notation.specs.Notation.{pick, with, when◌then◌else◌, if◌equals◌then◌else◌, if◌below◌then◌else◌}
 use Rattle.words.specs.Words.{width, word_limit, ones_of, zeros_of}
 use Rattle.operators.specs.Operators.{row_of, operands_of, gives_truth_of, operate_of}
 use Rattle.semantics.specs.declared.Reading.{Reading}
@@ -23,7 +23,7 @@ use Rattle.ranges.specs.Ranges.{ones_range, zeros_range, equal_range, is_word_ra
 
 -- of any operand
 any_ones : (v w : Reading) → v.number < word_limit → Covers (operation_reading ones_code v w) (word_report 0 width)
-unfolding operation_reading result_reading gives_truth_of row_of operate_of with if◌then◌else◌ if◌equals◌then◌else◌
+unfolding operation_reading result_reading gives_truth_of row_of operate_of with when◌then◌else◌ if◌equals◌then◌else◌
 any_ones v w p = go (operands_are_words ones_code v w)
   where
     go : (b : Bool) → Covers (pick b (reading_of word_term (ones_of v.number)) (reading_of word_term 0)) (word_report 0 width)
@@ -31,7 +31,7 @@ any_ones v w p = go (operands_are_words ones_code v w)
     go false = a_word {n = 0} {l = 0} {h = width} (omega arith) (omega arith) (omega arith)
 
 any_zeros : (v w : Reading) → Covers (operation_reading zeros_code v w) (word_report 0 width)
-unfolding operation_reading result_reading gives_truth_of row_of operate_of with if◌then◌else◌ if◌equals◌then◌else◌
+unfolding operation_reading result_reading gives_truth_of row_of operate_of with when◌then◌else◌ if◌equals◌then◌else◌
 any_zeros v w = go (operands_are_words zeros_code v w)
   where
     go : (b : Bool) → Covers (pick b (reading_of word_term (zeros_of width v.number)) (reading_of word_term 0)) (word_report 0 width)
@@ -40,7 +40,7 @@ any_zeros v w = go (operands_are_words zeros_code v w)
 
 -- of a span
 pub ones_covers : {v : Reading} {x : Report} (w : Reading) → Covers v x → Covers (operation_reading ones_code v w) (ones_range x)
-unfolding operation_reading operands_are_words is_word operands_of result_reading gives_truth_of row_of operate_of ones_range with if◌then◌else◌ if◌equals◌then◌else◌
+unfolding operation_reading operands_are_words is_word operands_of result_reading gives_truth_of row_of operate_of ones_range with when◌then◌else◌ if◌equals◌then◌else◌
 ones_covers {v} w (open_kind p) = any_ones v w p
 ones_covers w (a_truth {n = n} p q r) = any_ones (reading_of truth_term n) w (omega arith)
 ones_covers w (a_word {n = n} {l = l} {h = h} p q r) =
@@ -48,7 +48,7 @@ ones_covers w (a_word {n = n} {l = l} {h = h} p q r) =
     a_word {n = ones_of n} {l = 0} {h = width - zeros_of width h} (omega arith) o (omega arith)
 
 pub zeros_covers : {v : Reading} {x : Report} (w : Reading) → Covers v x → Covers (operation_reading zeros_code v w) (zeros_range x)
-unfolding operation_reading operands_are_words is_word operands_of result_reading gives_truth_of row_of operate_of zeros_range with if◌then◌else◌ if◌equals◌then◌else◌
+unfolding operation_reading operands_are_words is_word operands_of result_reading gives_truth_of row_of operate_of zeros_range with when◌then◌else◌ if◌equals◌then◌else◌
 zeros_covers {v} w (open_kind p) = any_zeros v w
 zeros_covers w (a_truth {n = n} p q r) = any_zeros (reading_of truth_term n) w
 zeros_covers w (a_word {n = n} {l = l} {h = h} p q r) =
@@ -64,14 +64,14 @@ gives_equal = refl
 
 -- of what are not both spans
 no_equal : (x y : Report) → are_spans x y ≡ false → equal_range x y ≡ both_truths
-unfolding equal_range with if◌then◌else◌
+unfolding equal_range with when◌then◌else◌
 no_equal x y e = rw e
 
 any_equal : (v w : Reading) → v.number < word_limit → w.number < word_limit → Covers (operation_reading equal_code v w) both_truths
 any_equal v w p q = truth_covers equal_code v w p q gives_equal
 
 pub equal_covers : {v w : Reading} {x y : Report} → Two v w x y → Covers (operation_reading equal_code v w) (equal_range x y)
-unfolding operation_reading operands_are_words is_word operands_of row_of result_reading gives_truth_of operate_of equal_range are_spans with if◌then◌else◌ if◌equals◌then◌else◌ if◌below◌then◌else◌
+unfolding operation_reading operands_are_words is_word operands_of row_of result_reading gives_truth_of operate_of equal_range are_spans with when◌then◌else◌ if◌equals◌then◌else◌ if◌below◌then◌else◌
 equal_covers (spans {n = n} {l = l} {h = h} {m = m} {k = k} {j = j} a b c d e f) = go (eqb n m) (ltb h k) (ltb j l) refl refl refl
   where
     apart : Covers (truth_reading false) (truth_report 0 0)

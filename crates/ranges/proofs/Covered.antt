@@ -5,7 +5,7 @@ use mathlib.Core.List.{List}
 use Prim.Native.Nat.{ℕ, ◌<◌}
 use lib.Dec.{eqb, ltb}
 use borrow.Author.Tests.{eqb-true, ltb-true, lt-ltb}
-use Rattle.notation.specs.Notation.{pick, with, if◌then◌else◌, if◌equals◌then◌else◌, if◌below◌then◌else◌}
+use Rattle.notation.specs.Notation.{pick, with, when◌then◌else◌, if◌equals◌then◌else◌, if◌below◌then◌else◌}
 use Rattle.operators.specs.Operators.{operate_of}
 use Rattle.semantics.specs.declared.Term.{Term}
 use Rattle.semantics.specs.declared.Reading.{Reading}
@@ -32,7 +32,7 @@ module _ {v w : Reading} {x y : Report} (c : Covers v x) (d : Covers w y) (ts : 
   operation_reported l = rw (lt-ltb op not_code l) at reported
 
   operation_covers : op < not_code → Covers (operation_reading op v w) (operation_range op x y)
-  unfolding operation_range with if◌then◌else◌ if◌equals◌then◌else◌
+  unfolding operation_range with when◌then◌else◌ if◌equals◌then◌else◌
   operation_covers l = go (one_word_each op x y) (eqb op ones_code) (eqb op zeros_code) (eqb op equal_code) refl refl refl refl
     where
       go : (e i j k : Bool) → one_word_each op x y ≡ e → eqb op ones_code ≡ i → eqb op zeros_code ≡ j → eqb op equal_code ≡ k

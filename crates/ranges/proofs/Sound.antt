@@ -5,7 +5,7 @@ use Prim.Native.Nat.{ℕ}
 use native.Mathlib.Omega.{arith}
 use lib.Dec.{eqb, ltb}
 use borrow.Author.Tests.{eqb-true, ltb-true, ne_eqb}
-use Rattle.notation.specs.Notation.{pick, with, if◌then◌else◌, if◌equals◌then◌else◌, if◌below◌then◌else◌}
+use Rattle.notation.specs.Notation.{pick, with, when◌then◌else◌, if◌equals◌then◌else◌, if◌below◌then◌else◌}
 use Rattle.semantics.specs.declared.Reading.{Reading}
 use Rattle.semantics.specs.declared.Report.{Report}
 use Rattle.semantics.specs.declared.Goal.{Goal}
@@ -67,7 +67,7 @@ module _ {a b v : Reading} {s t r : Report} (ca : Covers a s) (cb : Covers b t) 
   outcome = result_outcome (is_true a) (is_true b) halted v
 
   err_sound : may_err s t halted ≡ false → is_error outcome ≡ false
-  unfolding may_err result_outcome with if◌then◌else◌
+  unfolding may_err result_outcome with when◌then◌else◌
   err_sound e = go (only_true t) halted (only_false s) refl refl e
     where
       -- T can only be true
@@ -87,7 +87,7 @@ module _ {a b v : Reading} {s t r : Report} (ca : Covers a s) (cb : Covers b t) 
       go false h j p q e = never (sym e)
 
   abort_sound : may_abort s t ≡ false → is_abort outcome ≡ false
-  unfolding may_abort result_outcome with if◌then◌else◌
+  unfolding may_abort result_outcome with when◌then◌else◌
   abort_sound e = go (only_false t) (only_true s) refl refl e
     where
       assumed : (c h : Bool) → is_abort (pick c (pick h Error (value_outcome v)) Error) ≡ false
@@ -105,7 +105,7 @@ module _ {a b v : Reading} {s t r : Report} (ca : Covers a s) (cb : Covers b t) 
   be_sound w e = value_not cv w e
 
   give_sound : (w : ℕ) → may_give s t halted r w ≡ false → is_the_word w outcome ≡ false
-  unfolding may_give result_outcome with if◌then◌else◌
+  unfolding may_give result_outcome with when◌then◌else◌
   give_sound w e = go halted (only_false t) (only_false s) refl refl e
     where
       no_value_lem : (c d : Bool) → is_the_word w (pick d (pick c Error Abort) Error) ≡ false

@@ -5,7 +5,7 @@ use Prim.Native.Nat.{ℕ, ◌<◌}
 use native.Mathlib.Omega.{arith}
 use lib.Dec.{eqb}
 use borrow.Author.Tests.{eqb-true}
-use Rattle.notation.specs.Notation.{pick, with, if◌then◌else◌, if◌equals◌then◌else◌}
+use Rattle.notation.specs.Notation.{pick, with, when◌then◌else◌, if◌equals◌then◌else◌}
 use Rattle.words.specs.Words.{word_limit}
 use Rattle.operators.specs.Operators.{operands_of, gives_truth_of, operate_of}
 use Rattle.semantics.specs.declared.Reading.{Reading}
@@ -32,7 +32,7 @@ one_small c e = subst (λ (z : Reading). z.number < word_limit) (one_is c e) (nu
 
 -- a number as the operator gives it
 worked_covers : (op w : ℕ) → w < word_limit → (gives_truth_of op ≡ true → w < 2) → Covers (result_reading op w) (worked_out op w)
-unfolding result_reading worked_out with if◌then◌else◌
+unfolding result_reading worked_out with when◌then◌else◌
 worked_covers op w l b = go (gives_truth_of op) refl
   where
     go : (c : Bool) → gives_truth_of op ≡ c → Covers (pick c (reading_of truth_term w) (reading_of word_term w)) (pick c (truth_report w w) (word_report w w))
@@ -41,7 +41,7 @@ worked_covers op w l b = go (gives_truth_of op) refl
 
 module _ (op : ℕ) {v w : Reading} {x y : Report} (l : op < not_code) (c : Covers v x) (d : Covers w y) where
   operation_one : one_word_each op x y ≡ true → (operation_reading op v w ≡ result_reading op (operate_of op x.low y.low)) × (operate_of op x.low y.low < word_limit)
-  unfolding one_word_each operation_reading operands_are_words is_word with if◌then◌else◌ if◌equals◌then◌else◌
+  unfolding one_word_each operation_reading operands_are_words is_word with when◌then◌else◌ if◌equals◌then◌else◌
   operation_one h = go (one_word x) (eqb (operands_of op) 1) (one_word y) refl refl refl h
     where
       go : (a b e : Bool) → one_word x ≡ a → eqb (operands_of op) 1 ≡ b → one_word y ≡ e → pick a (pick b true e) false ≡ true

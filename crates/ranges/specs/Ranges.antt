@@ -2,7 +2,7 @@
 -- but where a search gains by more: an operator on one word each is worked out, a count of ones or of leading zeros is small, words that do not meet
 -- are not equal, and a test of a kind is decided where the kind is known. Assumes nothing.
 use Rattle.std.specs.Prelude.{ℕ, ◌-◌, Bool, true, false, List, eqb}
-use Rattle.notation.specs.Notation.{with, if◌then◌else◌, if◌equals◌then◌else◌, if◌below◌then◌else◌}
+use Rattle.notation.specs.Notation.{with, when◌then◌else◌, if◌equals◌then◌else◌, if◌below◌then◌else◌}
 use Rattle.words.specs.Words.{width, zeros_of}
 use Rattle.operators.specs.Operators.{operands_of, gives_truth_of, operate_of}
 use Rattle.semantics.specs.declared.Term.{Term}
@@ -18,11 +18,11 @@ one_word x = if x.sort equals word_term then eqb x.low x.high else false
 
 -- so is each operand
 unfoldable pub one_word_each : ℕ → Report → Report → Bool
-one_word_each op x y = with (one_word x) λ b. if b then (with (operands_of op) λ n. if n equals 1 then true else one_word y) else false
+one_word_each op x y = with (one_word x) λ b. when b then (with (operands_of op) λ n. if n equals 1 then true else one_word y) else false
 
 -- what the operator gives then
 unfoldable pub worked_out : ℕ → ℕ → Report
-worked_out op w = with (gives_truth_of op) λ b. if b then truth_report w w else word_report w w
+worked_out op w = with (gives_truth_of op) λ b. when b then truth_report w w else word_report w w
 
 -- 9 count of ones: no more than the bits below the leading zeros of the greatest word
 unfoldable pub ones_range : Report → Report
@@ -35,14 +35,14 @@ zeros_range x = if x.sort equals word_term then (with (zeros_of width x.high) λ
 -- 12 equal: not where one ends below the other
 unfoldable pub equal_range : Report → Report → Report
 equal_range x y =
-    with (are_spans x y) λ b. if b then (
+    with (are_spans x y) λ b. when b then (
     if x.high below y.low then truth_report 0 0 else
     if y.high below x.low then truth_report 0 0 else
     both_truths) else both_truths
 
 unfoldable pub operation_range : ℕ → Report → Report → Report
 operation_range op x y =
-    with (one_word_each op x y) λ b. if b then (with (operate_of op x.low y.low) λ w. worked_out op w) else
+    with (one_word_each op x y) λ b. when b then (with (operate_of op x.low y.low) λ w. worked_out op w) else
     if op equals ones_code then ones_range x else
     if op equals zeros_code then zeros_range x else
     if op equals equal_code then equal_range x y else

@@ -4,7 +4,7 @@
 
 ghost use Rattle.std.specs.Prelude.{◌≡◌, length, replicate};
 ghost use Rattle.semantics.specs.Reading.{is_true, term_reading};
-ghost use Rattle.notation.specs.Notation.{if◌then◌else◌};
+ghost use Rattle.notation.specs.Notation.{when◌then◌else◌};
 ghost use Rattle.reader.specs.Reader.{held_outcome, unpacked_of, held_reading};
 
 use semantics::{Outcome, Reading, Result, Term, numbers};
@@ -95,7 +95,7 @@ pub fn term_reading(t: Term, numbers: [Word; 16], held: &[Place]) -> Reading
 
 // A choice: b if a, else c. Both sides are looked up, so that no jump hangs on the guard.
 fn choice_reading(t: Term, held: &[Place]) -> Reading
-    ensures { result ≡ (if is_true (held_reading held.now t.a) then held_reading held.now t.b else held_reading held.now t.c) }
+    ensures { result ≡ (when is_true (held_reading held.now t.a) then held_reading held.now t.b else held_reading held.now t.c) }
 {
     let guard = held_reading(held, t.a);
     let first = held_reading(held, t.b);

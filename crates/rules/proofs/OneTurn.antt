@@ -5,7 +5,7 @@ use mathlib.Core.List.{List}
 use Prim.Native.Nat.{ℕ, zero, suc, ◌+◌, ◌-◌, ◌<◌, ◌≤◌}
 use native.Mathlib.Omega.{arith}
 use lib.ListN.{length}
-use Rattle.notation.specs.Notation.{pick, if◌then◌else◌, unless◌then◌else◌, up_to}
+use Rattle.notation.specs.Notation.{pick, when◌then◌else◌, unless◌then◌else◌, up_to}
 use Rattle.notation.proofs.Every.{pick_both, up_stop}
 use Rattle.semantics.specs.Records.{record_at, records_in}
 use Rattle.semantics.specs.Rules.{bad_rule_size, shaped_of}
@@ -14,7 +14,7 @@ use Rattle.rules.specs.Turns.{stands_of, turns_of, test_turns_of, rule_turns_of}
 module _ (s : List ℕ) (n : ℕ) where
   -- one for each record that stands,
   all_stand : (i : ℕ) → up_to i (stands_of s n) ≡ true → turns_of s n i ≡ i
-  unfolding turns_of up_to if◌then◌else◌
+  unfolding turns_of up_to when◌then◌else◌
   all_stand zero h = refl
   all_stand (suc i) h =
       let b = (pick_both (up_to i (stands_of s n)) (stands_of s n i) h).0 in
@@ -23,7 +23,7 @@ module _ (s : List ℕ) (n : ℕ) where
 
   -- one more for the first that does not, and none after it
   first_falls : (i d : ℕ) → up_to i (stands_of s n) ≡ true → stands_of s n i ≡ false → turns_of s n (suc d + i) ≡ suc i
-  unfolding turns_of if◌then◌else◌
+  unfolding turns_of when◌then◌else◌
   first_falls i zero h f =
       let e : suc zero + i ≡ suc i = omega arith in
       let r = all_stand i h in
@@ -43,7 +43,7 @@ module _ (s : List ℕ) (n : ℕ) where
   turns_end i h l k e = let q : n ≡ i = omega arith in rw q (e ∙ sym (rw q at (all_stand i h)))
 
   few : (k : ℕ) → turns_of s n k ≤ k
-  unfolding turns_of if◌then◌else◌
+  unfolding turns_of when◌then◌else◌
   few zero = omega arith
   few (suc k) = go (up_to k (stands_of s n)) (few k)
     where
@@ -53,7 +53,7 @@ module _ (s : List ℕ) (n : ℕ) where
 
 -- "at most one turn for each record"
 pub turns_few : (s : List ℕ) → rule_turns_of s ≤ records_in s
-unfolding rule_turns_of test_turns_of if◌then◌else◌ unless◌then◌else◌
+unfolding rule_turns_of test_turns_of when◌then◌else◌ unless◌then◌else◌
 turns_few s = go (bad_rule_size (length s)) (up_to (records_in s) (λ i. shaped_of (record_at s i)))
   where
     go : (a b : Bool) → pick a 0 (pick b (turns_of s (records_in s) (records_in s)) 0) ≤ records_in s

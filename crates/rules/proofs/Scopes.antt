@@ -9,7 +9,7 @@ use lib.ListN.{length, get_or, set, length-set, replicate, length-replicate}
 use lib.Seq.{set_out, get_or-set_same, get_or-set_other}
 use lib.Dec.{eqb, ltb}
 use borrow.Author.Tests.{eqb-true, eqb-false, ltb-true, ltb-false}
-use Rattle.notation.specs.Notation.{pick, with, if◌then◌else◌, if◌equals◌then◌else◌, up_to, every}
+use Rattle.notation.specs.Notation.{pick, with, when◌then◌else◌, if◌equals◌then◌else◌, up_to, every}
 use Rattle.notation.proofs.Every.{and_both}
 use Rattle.semantics.specs.declared.Record.{Record}
 use Rattle.semantics.specs.Numbers.{procedure_record, let_record, if_record, input_count}
@@ -181,7 +181,7 @@ sees_start s n tree = refl
 pub sees_next : (s : List ℕ) (n i : ℕ) {m : List ℕ} {x : Record} {b c d : Bool}
     → Sees s n i b → Kept s n i m → i < n → stands_of s n i ≡ true → x ≡ record_at s i
     → c ≡ every (λ p. ltb p (get_or m i 0 + input_count)) (places_of x) → d ≡ (c && b) → Sees s n (i + 1) d
-unfolding up_to if◌then◌else◌ scoped_of with
+unfolding up_to when◌then◌else◌ scoped_of with
 sees_next s n i {m} {x} {b} {c} h g l w ex ec e tree = rw (add-one, up_to, h tree, ← kept_here s n i g l w tree, ← ex, ← ec, e) (go b c)
   where
     go : (b c : Bool) → pick b c false ≡ (c && b)

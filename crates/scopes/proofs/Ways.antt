@@ -7,7 +7,7 @@ use native.Mathlib.Omega.{arith}
 use lib.Dec.{eqb, ltb}
 use lib.ListN.{length}
 use borrow.Author.Tests.{eqb-true, eqb-false, ltb-false, le-ltb}
-use Rattle.notation.specs.Notation.{pick, with, if◌then◌else◌, if◌equals◌then◌else◌, unless◌then◌else◌, up_to, every, In, here, there}
+use Rattle.notation.specs.Notation.{pick, with, when◌then◌else◌, if◌equals◌then◌else◌, unless◌then◌else◌, up_to, every, In, here, there}
 use Rattle.notation.proofs.Every.{up_all, every_in}
 use Rattle.semantics.specs.Numbers.{input_count, rule_bytes, bad_place}
 use Rattle.semantics.specs.Records.{record_at, records_in}
@@ -79,7 +79,7 @@ pub record PlacePast (limit : ℕ) (ps : List ℕ) : Type 0 where
   pub past : limit ≤ place
 
 place_past : (limit : ℕ) (ps : List ℕ) → every (λ p. ltb p limit) ps ≡ false → PlacePast limit ps
-unfolding every if◌then◌else◌
+unfolding every when◌then◌else◌
 place_past limit [] h = absurd (true≢false h)
 place_past limit (p ∷ ps) h = go (ltb p limit) refl h (place_past limit ps)
   where
@@ -95,7 +95,7 @@ pub record FailsAt (f : ℕ → Bool) (n : ℕ) : Type 0 where
   pub fails : f at ≡ false
 
 fails_at : (f : ℕ → Bool) (n : ℕ) → up_to n f ≡ false → FailsAt f n
-unfolding up_to if◌then◌else◌
+unfolding up_to when◌then◌else◌
 fails_at f zero h = absurd (true≢false h)
 fails_at f (suc n) h = go (up_to n f) refl h (fails_at f n)
   where
@@ -118,7 +118,7 @@ some_record s h = go (eqb (length s) 0) (ltb rule_bytes (length s)) (eqb (length
 
 module _ (s : List ℕ) (t : ATree s) where
   by_places : rule_refusal_of s ≡ pick (up_to (records_in s) (scoped_of s)) 0 bad_place
-  unfolding rule_refusal_of tests_of if◌then◌else◌ unless◌then◌else◌
+  unfolding rule_refusal_of tests_of when◌then◌else◌ unless◌then◌else◌
   by_places = rw (t.sized, t.shaped, t.linked)
 
   out : up_to (records_in s) (scoped_of s) ≡ false → OutOfScope s

@@ -28,7 +28,7 @@ use Rattle.semantics.specs.History as History
 use Rattle.semantics.specs.Print as Print
 
 unfoldable notation : ℕ
-unfolding Notation.if◌then◌else◌ Notation.if◌equals◌then◌else◌ Notation.if◌below◌then◌else◌ Notation.unless◌then◌else◌ Notation.with Notation.up_to Notation.every
+unfolding Notation.when◌then◌else◌ Notation.if◌equals◌then◌else◌ Notation.if◌below◌then◌else◌ Notation.unless◌then◌else◌ Notation.with Notation.up_to Notation.every
 notation = 0
 
 unfoldable words : ℕ

@@ -7,7 +7,7 @@ use Prim.Native.Nat.{ℕ, zero, suc, ◌+◌, ◌<◌, ◌≤◌}
 use native.Mathlib.Omega.{arith}
 use lib.Dec.{eqb, ltb}
 use borrow.Author.Tests.{ltb-true, ltb-false}
-use Rattle.notation.specs.Notation.{pick, with, if◌then◌else◌, if◌equals◌then◌else◌, if◌below◌then◌else◌}
+use Rattle.notation.specs.Notation.{pick, with, when◌then◌else◌, if◌equals◌then◌else◌, if◌below◌then◌else◌}
 use Rattle.semantics.specs.declared.Record.{Record}
 use Rattle.semantics.specs.Numbers.{input_count}
 use Rattle.semantics.specs.Records.{record_at}
@@ -72,8 +72,8 @@ module _ (room : ℕ) (rule : List ℕ) where
     call_lasts (binding u e) v k l = plain k l
     call_lasts none v k l = plain k l
 
-    if_lasts : (b : Bool) (q r : ℕ) (e : Value) (k : ℕ) → k ≤ room → Lasts room ((if b then g r else g q) e) (k + (if b then m r else m q) e) ((if b then f r else f q) e k)
-    unfolding if◌then◌else◌
+    if_lasts : (b : Bool) (q r : ℕ) (e : Value) (k : ℕ) → k ≤ room → Lasts room ((when b then g r else g q) e) (k + (when b then m r else m q) e) ((when b then f r else f q) e k)
+    unfolding when◌then◌else◌
     if_lasts true q r e k l = ih r e k l
     if_lasts false q r e k l = ih q e k l
 

@@ -6,7 +6,7 @@ use Prim.Native.Nat.{ℕ, zero, suc, ◌+◌, ◌<◌, ◌≤◌}
 use native.Mathlib.Omega.{arith}
 use lib.Dec.{eqb, ltb}
 use borrow.Author.Tests.{eqb-true, eqb-false, eq-eqb, ne_eqb, ltb-true}
-use Rattle.notation.specs.Notation.{pick, with, if◌then◌else◌, if◌equals◌then◌else◌, up_to, every, In, here, there}
+use Rattle.notation.specs.Notation.{pick, with, when◌then◌else◌, if◌equals◌then◌else◌, up_to, every, In, here, there}
 use Rattle.notation.proofs.Every.{pick_both, and_both, up_all}
 use Rattle.semantics.specs.Records.{record_at}
 use Rattle.semantics.specs.Rules.{Part, part, parts_of, inside_of, times_in, times_below, once_of, linked_of, more_in, parent_below, entered_of, in_scope_at}
@@ -38,7 +38,7 @@ module _ (c : ℕ) where
 
   -- "Each child's number is greater than its parent's", and below the count
   pub within : (i n : ℕ) (ps : List Part) → every (inside_of i n) ps ≡ true → 1 ≤ times_in c ps → (i < c) × (c < n)
-  unfolding every if◌then◌else◌ if◌equals◌then◌else◌ times_in inside_of
+  unfolding every when◌then◌else◌ if◌equals◌then◌else◌ times_in inside_of
   within i n [] h t = absurd (omega arith)
   within i n (p ∷ ps) h t =
       let b = pick_both (inside_of i n p) (every (inside_of i n) ps) h in

@@ -8,7 +8,7 @@ use native.Mathlib.Omega.{arith}
 use lib.Dec.{eqb, ltb}
 use lib.ListN.{length}
 use borrow.Author.Tests.{eqb-true, eqb-false, eq-eqb, ne_eqb, ltb-true, ltb-false, lt-ltb, le-ltb}
-use Rattle.notation.specs.Notation.{pick, with, if◌then◌else◌, if◌equals◌then◌else◌, if◌below◌then◌else◌}
+use Rattle.notation.specs.Notation.{pick, with, when◌then◌else◌, if◌equals◌then◌else◌, if◌below◌then◌else◌}
 use Rattle.operators.specs.Operators.{operands_of, row_of}
 use Rattle.semantics.specs.declared.Term.{Term}
 use Rattle.semantics.specs.declared.Result.{Result}
@@ -49,7 +49,7 @@ module _ (op : ℕ) (x y z : Reading) (one : operands_of op ≡ 1) where
 module _ (numbers : List ℕ) (t : Term) (x y z u v w : Reading) where
   -- what a term reads as hangs on those that it is read from
   pub reads_from : (from_first t ≡ true → x ≡ u) → (from_second t ≡ true → y ≡ v) → (from_third t ≡ true → z ≡ w) → term_reading numbers t x y z ≡ term_reading numbers t u v w
-  unfolding term_reading from_first from_second from_third if◌equals◌then◌else◌ if◌then◌else◌
+  unfolding term_reading from_first from_second from_third if◌equals◌then◌else◌ when◌then◌else◌
   reads_from ex ey ez = go (eqb t.kind operator_term) (eqb t.kind choice_term) refl refl
     where
       second : (b : Bool) → eqb (operands_of t.op) 1 ≡ b → (not b ≡ true → y ≡ v) → operator_reading t.op u y ≡ operator_reading t.op u v
@@ -138,7 +138,7 @@ module _ (numbers : List ℕ) (n : ℕ) (t : Term) (g h : ℕ → Reading) (past
 
 -- a marked term stays marked
 pub down_more : (ts : List Term) (m : ℕ → Bool) (k : ℕ) → m k ≡ true → down_from ts m k ≡ true
-unfolding down_from if◌then◌else◌
+unfolding down_from when◌then◌else◌
 down_more [] m k h = h
 down_more (t ∷ ts) m k h = down_more ts _ k (go (m (length ts)))
   where
@@ -148,7 +148,7 @@ down_more (t ∷ ts) m k h = down_more ts _ k (go (m (length ts)))
 
 -- at the newest term or past it nothing is marked anew
 down_high : (ts : List Term) (m : ℕ → Bool) (k : ℕ) → length ts ≤ k → down_from ts m k ≡ m k
-unfolding down_from if◌then◌else◌
+unfolding down_from when◌then◌else◌
 down_high [] m k h = refl
 down_high (t ∷ ts) m k h = down_high ts _ k (omega arith) ∙ go (m (length ts))
   where
@@ -158,7 +158,7 @@ down_high (t ∷ ts) m k h = down_high ts _ k (omega arith) ∙ go (m (length ts
 
 -- the same marks come of the same ones
 pub down_same : (ts : List Term) (m n : ℕ → Bool) → ((k : ℕ) → m k ≡ n k) → (k : ℕ) → down_from ts m k ≡ down_from ts n k
-unfolding down_from if◌then◌else◌ with_lower with_term
+unfolding down_from when◌then◌else◌ with_lower with_term
 down_same [] m n e k = e k
 down_same (t ∷ ts) m n e k = down_same ts _ _ (λ j. rw (e (length ts)) (go j (n (length ts)))) k
   where
@@ -168,7 +168,7 @@ down_same (t ∷ ts) m n e k = down_same ts _ _ (λ j. rw (e (length ts)) (go j 
 
 -- what a marked term is read from is marked
 pub down_closed : (ts : List Term) (m : ℕ → Bool) → Closed ts (down_from ts m)
-unfolding down_from if◌then◌else◌ at
+unfolding down_from when◌then◌else◌ at
 down_closed [] m j k h d l = absurd (omega arith)
 down_closed (t ∷ ts) m j k h d l = go (eqb j (length ts)) refl (down_closed ts (pick (m (length ts)) (with_lower (length ts) t m) m) j k)
   where
@@ -204,7 +204,7 @@ module _ (ts : List Term) (r : Result) where
   -- The result reads as it does in any list that has, at the terms under it, what these read as; nothing is read past the last term.
   pub read_under : (vs ws : ℕ → Reading) → ((k : ℕ) → length ts ≤ k → vs k ≡ ws k) → ((k : ℕ) → under_of ts r k ≡ true → vs k ≡ ws k)
       → result_outcome (is_true (vs r.state.assumed)) (is_true (vs r.state.asserted)) r.halted (vs r.value) ≡ result_outcome (is_true (ws r.state.assumed)) (is_true (ws r.state.asserted)) r.halted (ws r.value)
-  unfolding result_outcome if◌then◌else◌
+  unfolding result_outcome when◌then◌else◌
   read_under vs ws past known = rw (named r.state.assumed under_assumed, named r.state.asserted under_asserted) (go r.halted refl)
     where
       named : (k : ℕ) → (k < length ts → under_of ts r k ≡ true) → vs k ≡ ws k

@@ -1,7 +1,7 @@
 -- How many bindings the concrete run makes until it ends (document 01, "Run plainly": "each let and each call of a procedure takes one as it
 -- binds"). It is said of the run alone: no store is in it. Assumes nothing.
 use Rattle.std.specs.Prelude.{ℕ, zero, suc, ◌+◌, List}
-use Rattle.notation.specs.Notation.{if◌then◌else◌, if◌equals◌then◌else◌}
+use Rattle.notation.specs.Notation.{when◌then◌else◌, if◌equals◌then◌else◌}
 use Rattle.semantics.specs.declared.Record.{Record}
 use Rattle.semantics.specs.Numbers.{datum_record, variable_record, procedure_record, call_record, operator_record, let_record, if_record, abort_record}
 use Rattle.semantics.specs.Records.{record_at}
@@ -35,7 +35,7 @@ expression_makes rule run makes x =
     if x.kind equals call_record then (λ e. call_makes makes rule (placed x.p e) (placed x.q e)) else
     if x.kind equals operator_record then (λ e. 0) else
     if x.kind equals let_record then (λ e. let_makes (makes x.p e) (run x.p e) λ v. makes x.q (binding v e)) else
-    if x.kind equals if_record then (λ e. (if is_false (placed x.p e) then makes x.r else makes x.q) e) else
+    if x.kind equals if_record then (λ e. (when is_false (placed x.p e) then makes x.r else makes x.q) e) else
     if x.kind equals abort_record then (λ e. 0) else
     (λ e. 0)
 

@@ -1,6 +1,6 @@
 -- Evaluating a rule in a session (document 01, "Evaluate"): what the operation answers, and what it leaves. Assumes nothing.
 use Rattle.std.specs.Prelude.{ℕ, ◌+◌, Bool, ◌||◌, List, eqb, ltb, leb, length}
-use Rattle.notation.specs.Notation.{with, if◌then◌else◌, if◌below◌then◌else◌, unless◌then◌else◌}
+use Rattle.notation.specs.Notation.{with, when◌then◌else◌, if◌below◌then◌else◌, unless◌then◌else◌}
 use Rattle.semantics.specs.declared.Result.{Result}
 use Rattle.semantics.specs.declared.Session.{Session}
 use Rattle.semantics.specs.declared.Answer.TheVariants.{Halt, Refused}
@@ -50,7 +50,7 @@ unfoldable pub evaluate_of : List ℕ → ℕ → Operation
 evaluate_of rule allowance x s =
     (unless fits_of x s then refused_by misfit else
     with (rule_refusal_of rule) λ k. if 0 below k then refused_by k else
-    if bad_depth allowance then refused_by bad_allowance else
-    if leb rule_limit x.accepted then refused_by rules_spent else
-    if x.halted then halted_again else
+    when bad_depth allowance then refused_by bad_allowance else
+    when leb rule_limit x.accepted then refused_by rules_spent else
+    when x.halted then halted_again else
     evaluated rule allowance) x s

@@ -1,7 +1,7 @@
 -- Evaluating an expression and applying a procedure (document 01, "Evaluation"). An expression is a record's number; `run` evaluates its parts. In this
 -- file x is a state and y the one after it, g a guard and h its negation or another, v a value, p, q and r are a record's fields. Assumes nothing.
 use Rattle.std.specs.Prelude.{ℕ, zero, suc, List, [], ◌∷◌, ◌++◌}
-use Rattle.notation.specs.Notation.{with, if◌then◌else◌, if◌equals◌then◌else◌, if◌below◌then◌else◌}
+use Rattle.notation.specs.Notation.{with, when◌then◌else◌, if◌equals◌then◌else◌, if◌below◌then◌else◌}
 use Rattle.operators.specs.Operators.{operands_of}
 use Rattle.semantics.specs.declared.Record.{Record}
 use Rattle.semantics.specs.declared.Term.{Term}
@@ -50,7 +50,7 @@ words_of op a b = is_word_of a >>= λ g. with (operands_of op) λ n. if n equals
 -- "halt if S or T is then false; else the term"
 unfoldable pub operation_of : ℕ → ℕ → ℕ → State → Make Result
 operation_of op a b x =
-    words_of op a b >>= λ g. assert_of x g >>= λ y. halts y λ stops. if stops then give (halt_of y) else (operator_term_of op a b ▹ λ v. out_of y v)
+    words_of op a b >>= λ g. assert_of x g >>= λ y. halts y λ stops. when stops then give (halt_of y) else (operator_term_of op a b ▹ λ v. out_of y v)
 
 -- "Operator 13 is not of truth."
 unfoldable pub test_of : ℕ → ℕ → Make ℕ
@@ -72,7 +72,7 @@ under_of run q v env x = make_binding_of v env >>= λ inner. run q inner x
 
 -- "Let: a halt of the first part is the answer."
 unfoldable pub let_of : Evaluator → ℕ → ℕ → ℕ → State → Make Result
-let_of run p q env x = run p env x >>= λ first. if first.halted then give first else under_of run q first.value env first.state
+let_of run p q env x = run p env x >>= λ first. when first.halted then give first else under_of run q first.value env first.state
 
 -- ---- "If: take g, truth of the test. Constant: one branch only. Else not g, both assumed states, then branches, merged over the state before."
 pub record Fork : Type 0 where
@@ -117,7 +117,7 @@ targets_of run rule arg x leaves = each (target_of run rule arg x) [] leaves >>=
 unfoldable pub call_of : Evaluator → List ℕ → ℕ → ℕ → State → Make Result
 call_of run rule called arg x =
     aim_of called x >>= λ aim. halts aim.state λ stops.
-    if stops then give (halt_of aim.state) else targets_of run rule arg aim.state aim.leaves
+    when stops then give (halt_of aim.state) else targets_of run rule arg aim.state aim.leaves
 
 -- ---- any expression: the record here, whose number is i
 unfoldable pub expression_of : List ℕ → ℕ → Evaluator → Record → Evaluator
@@ -135,7 +135,7 @@ expression_of rule before run here i env x =
 -- "A state with false on either side halts."
 unfoldable pub live_of : List ℕ → ℕ → Evaluator → Evaluator
 live_of rule before run i env x =
-    halts x λ stops. if stops then give (halt_of x) else with (record_at rule i) λ here. expression_of rule before run here i env x
+    halts x λ stops. when stops then give (halt_of x) else with (record_at rule i) λ here. expression_of rule before run here i env x
 
 -- "Every expression needs depth 1 or more and gives its parts one less. The body a call runs is such a part. This is tested first."
 -- 12: "depth zero". `before` is the count of rules accepted before this one.

@@ -1,7 +1,7 @@
 -- The factory (document 01, "Terms"; document 02, "One. Fold what needs no thought."). Terms are made inner first and left before right. What
 -- document 01 folds comes first, then what document 02 folds. Assumes nothing.
 use Rattle.std.specs.Prelude.{ℕ, Bool, true, false, eqb}
-use Rattle.notation.specs.Notation.{with, if◌then◌else◌, if◌equals◌then◌else◌}
+use Rattle.notation.specs.Notation.{with, when◌then◌else◌, if◌equals◌then◌else◌}
 use Rattle.operators.specs.Operators.{operands_of, gives_truth_of, operate_of}
 use Rattle.semantics.specs.declared.Term.{Term}
 use Rattle.semantics.specs.Numbers.{truth_term, word_term, operator_term, choice_term, procedure_term, binding_term, multiply_code, bitwise_and_code, is_word_code, is_procedure_code, negation_code, conjunction_code, disjunction_code, truth_code, false_number, true_number, known_false, known_true}
@@ -49,7 +49,7 @@ is_not_of t = if t.kind equals operator_term then eqb t.op negation_code else fa
 unfoldable pub not_of : ℕ → Make ℕ
 not_of x =
     seen x λ k. if k equals known_false then give true_number else if k equals known_true then give false_number else
-    look x λ t. with (is_not_of t) λ twice. if twice then give t.a else make_operator_of negation_code x 0
+    look x λ t. with (is_not_of t) λ twice. when twice then give t.a else make_operator_of negation_code x 0
 
 -- "And with false is false, with true is the other side, of one term twice is that term"
 unfoldable pub and_of : ℕ → ℕ → Make ℕ
@@ -91,7 +91,7 @@ is_procedure_of x =
 
 -- a result that is worked out: the terms false and true have a truth's number
 unfoldable pub constant_of : ℕ → ℕ → Make ℕ
-constant_of op w = with (gives_truth_of op) λ b. if b then (with (truth_number w) λ n. give n) else make_word_of w
+constant_of op w = with (gives_truth_of op) λ b. when b then (with (truth_number w) λ n. give n) else make_word_of w
 
 -- whether a term is the word constant 0
 unfoldable pub is_zero_of : Term → Bool
@@ -104,9 +104,9 @@ zero_absorbs_of op = if op equals multiply_code then true else eqb op bitwise_an
 -- an operator that is not worked out; document 02: "word 0 for multiply or bitwise and when either operand is the word constant 0"
 unfoldable pub zero_fold_of : ℕ → ℕ → ℕ → Make ℕ
 zero_fold_of op x y =
-    with (zero_absorbs_of op) λ absorbs. if absorbs then
-    (look x λ t. with (is_zero_of t) λ zero. if zero then make_word_of 0 else
-    look y λ u. with (is_zero_of u) λ zero. if zero then make_word_of 0 else
+    with (zero_absorbs_of op) λ absorbs. when absorbs then
+    (look x λ t. with (is_zero_of t) λ zero. when zero then make_word_of 0 else
+    look y λ u. with (is_zero_of u) λ zero. when zero then make_word_of 0 else
     make_operator_of op x y)
     else make_operator_of op x y
 

@@ -1,6 +1,6 @@
 -- Merging guarded results over a state (document 01, "Evaluation", "Merge"). Assumes nothing.
 use Rattle.std.specs.Prelude.{ℕ, true, false, List, [], ◌∷◌}
-use Rattle.notation.specs.Notation.{if◌then◌else◌}
+use Rattle.notation.specs.Notation.{when◌then◌else◌}
 use Rattle.semantics.specs.declared.Folded.{Folded}
 use Rattle.semantics.specs.declared.State.{State}
 use Rattle.semantics.specs.declared.Result.{Result}
@@ -31,8 +31,8 @@ none_given = record { any = false; value = 0 }
 -- a branch before the later ones' value, if there is one
 unfoldable pub value_step_of : Branch → Folded → Make Folded
 value_step_of b later =
-    if b.halted then give later else
-    if later.any then (choice_of b.guard b.value later.value ▹ λ v. record { any = true; value = v }) else
+    when b.halted then give later else
+    when later.any then (choice_of b.guard b.value later.value ▹ λ v. record { any = true; value = v }) else
     give (record { any = true; value = b.value })
 
 unfoldable pub merge_values_of : List Branch → Make Folded
@@ -41,7 +41,7 @@ merge_values_of (b ∷ bs) = merge_values_of bs >>= λ later. value_step_of b la
 
 -- ---- "All halted, or none ran: halt. Else halt only if S or T is false."
 unfoldable pub finish_of : State → Folded → Make Result
-finish_of x v = if v.any then (halts x λ b. if b then give (halt_of x) else give (out_of x v.value)) else give (halt_of x)
+finish_of x v = when v.any then (halts x λ b. when b then give (halt_of x) else give (out_of x v.value)) else give (halt_of x)
 
 unfoldable pub merge_of : State → List Branch → Make Result
 merge_of x bs = merge_states_of x bs >>= λ y. merge_values_of bs >>= λ v. finish_of y v

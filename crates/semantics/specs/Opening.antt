@@ -1,6 +1,6 @@
 -- Opening a session (document 01, "Opening" and "Open"). Assumes nothing.
 use Rattle.std.specs.Prelude.{ℕ, suc, ◌%◌, Bool, true, false, not, ◌||◌, List, [], ◌∷◌, eqb, ltb, length}
-use Rattle.notation.specs.Notation.{with, if◌then◌else◌, if◌equals◌then◌else◌, unless◌then◌else◌, every}
+use Rattle.notation.specs.Notation.{with, when◌then◌else◌, if◌equals◌then◌else◌, unless◌then◌else◌, every}
 use Rattle.semantics.specs.declared.Term.{Term}
 use Rattle.semantics.specs.declared.Input.{Input}
 use Rattle.semantics.specs.declared.Session.{Session}
@@ -71,6 +71,6 @@ open_refused xs s k = (record { refusal = k; session = session_of xs 0 }, s)
 -- Open: the answer, and the table then.
 unfoldable pub open_of : List Input → List ℕ → Opened × List ℕ
 open_of xs s =
-    if bad_table_size (length s) then open_refused xs s table_size else
+    when bad_table_size (length s) then open_refused xs s table_size else
     unless every input_taken xs then open_refused xs s bad_input else
     with (opening xs).terms λ ts. (record { refusal = 0; session = session_of xs (length ts) }, image_of (length s) ts)

@@ -1,6 +1,6 @@
 -- The plain run: the concrete rules with a store of places (document 01, "Run plainly"). Assumes nothing.
 use Rattle.std.specs.Prelude.{ℕ, zero, suc, ◌/◌, min, List, length, replicate}
-use Rattle.notation.specs.Notation.{with, if◌then◌else◌, if◌equals◌then◌else◌, if◌below◌then◌else◌, unless◌then◌else◌, every}
+use Rattle.notation.specs.Notation.{with, when◌then◌else◌, if◌equals◌then◌else◌, if◌below◌then◌else◌, unless◌then◌else◌, every}
 use Rattle.semantics.specs.declared.Record.{Record}
 use Rattle.semantics.specs.declared.Input.{Input}
 use Rattle.semantics.specs.declared.Outcome.{Outcome}
@@ -51,7 +51,7 @@ expression_stored room rule run x i =
     if x.kind equals call_record then (λ e. call_stored room run rule (placed x.p e) (placed x.q e)) else
     if x.kind equals operator_record then (λ e. ended (operator_run x.op (placed x.p e) (placed x.q e))) else
     if x.kind equals let_record then (λ e k. onward (run x.p e k) λ v. taking room (run x.q) (binding v e)) else
-    if x.kind equals if_record then (λ e. (if is_false (placed x.p e) then run x.r else run x.q) e) else
+    if x.kind equals if_record then (λ e. (when is_false (placed x.p e) then run x.r else run x.q) e) else
     if x.kind equals abort_record then (λ e. ended aborts) else
     (λ e. ended errs)
 
@@ -97,7 +97,7 @@ run_outcome xs numbers rule allowance l =
     unless every input_taken xs then stopped_by bad_input else
     unless numbers_taken xs numbers then stopped_by bad_number else
     with (rule_refusal_of rule) λ k. if 0 below k then stopped_by k else
-    if bad_depth allowance then stopped_by bad_allowance else
+    when bad_depth allowance then stopped_by bad_allowance else
     (λ e. stored_outcome (started_of (places_in l) rule allowance e)))
 
 -- Run plainly: the answer, and the store then: "On every return the store is zero."

@@ -1,6 +1,6 @@
 -- The printing program (document 01, "The printed case"): the lines that it prints for its input. Assumes nothing.
 use Rattle.std.specs.Prelude.{ℕ, zero, suc, ◌+◌, ◌*◌, ◌-◌, Bool, ◌&&◌, List, [], ◌∷◌, eqb, leb, get_or, drop, length, replicate}
-use Rattle.notation.specs.Notation.{with, if◌then◌else◌, if◌equals◌then◌else◌, up_to}
+use Rattle.notation.specs.Notation.{with, when◌then◌else◌, if◌equals◌then◌else◌, up_to}
 use Rattle.words.specs.Words.{word_bytes}
 use Rattle.semantics.specs.declared.Term.{Term}
 use Rattle.semantics.specs.declared.Input.{Input}
@@ -78,4 +78,4 @@ opening_lines s o =
 
 unfoldable pub printed_of : List ℕ → List Line
 printed_of s =
-    with s (if inputs_whole s then (λ t. opening_lines t (open_of (inputs_from t 0 input_count) (replicate most_table 0))) else (λ t. refusal bad_input ∷ []))
+    with s (when inputs_whole s then (λ t. opening_lines t (open_of (inputs_from t 0 input_count) (replicate most_table 0))) else (λ t. refusal bad_input ∷ []))

@@ -1,6 +1,6 @@
 -- Reading a result under sixteen numbers (document 01, "Reading", "Terms" and "Read"). Assumes nothing.
 use Rattle.std.specs.Prelude.{ℕ, Bool, true, false, not, ◌&&◌, ◌||◌, List, [], ◌∷◌, eqb, ltb, get_or, length, replicate}
-use Rattle.notation.specs.Notation.{with, if◌then◌else◌, if◌equals◌then◌else◌, if◌below◌then◌else◌, unless◌then◌else◌}
+use Rattle.notation.specs.Notation.{with, when◌then◌else◌, if◌equals◌then◌else◌, if◌below◌then◌else◌, unless◌then◌else◌}
 use Rattle.operators.specs.Operators.{operands_of, gives_truth_of, bit_of, operate_of}
 use Rattle.semantics.specs.declared.Term.{Term}
 use Rattle.semantics.specs.declared.Input.{Input}
@@ -41,16 +41,16 @@ passes v = if v.sort equals truth_term then eqb v.number 1 else true
 
 -- what an operator with this code gives: a word, or a truth as a number
 unfoldable pub result_reading : ℕ → ℕ → Reading
-result_reading op w = with (gives_truth_of op) λ b. if b then reading_of truth_term w else reading_of word_term w
+result_reading op w = with (gives_truth_of op) λ b. when b then reading_of truth_term w else reading_of word_term w
 
 -- the operands of a code from 1 to 12 are words
 unfoldable pub operands_are_words : ℕ → Reading → Reading → Bool
-operands_are_words op x y = if is_word x then (with (operands_of op) λ n. if n equals 1 then true else is_word y) else false
+operands_are_words op x y = when is_word x then (with (operands_of op) λ n. if n equals 1 then true else is_word y) else false
 
 -- "An operator term with an operand of the wrong kind reads as word 0 or false."
 unfoldable pub operation_reading : ℕ → Reading → Reading → Reading
 operation_reading op x y =
-    with (operands_are_words op x y) λ b. if b then (with (operate_of op x.number y.number) λ w. result_reading op w) else result_reading op 0
+    with (operands_are_words op x y) λ b. when b then (with (operate_of op x.number y.number) λ w. result_reading op w) else result_reading op 0
 
 -- "14 is a word. 15 is a procedure."; "32 not, 33 and, 34 or, 35 truth"; what is no truth is an operand of the wrong kind for 32 to 34
 unfoldable pub operator_reading : ℕ → Reading → Reading → Reading
@@ -72,7 +72,7 @@ term_reading numbers t x y z =
     if t.kind equals free_truth_term then (with (get_or numbers t.a 0) λ n. reading_of truth_term n) else
     if t.kind equals free_word_term then (with (get_or numbers t.a 0) λ n. reading_of word_term n) else
     if t.kind equals operator_term then operator_reading t.op x y else
-    if t.kind equals choice_term then (if is_true x then y else z) else
+    if t.kind equals choice_term then (when is_true x then y else z) else
     if t.kind equals procedure_term then reading_of procedure_term t.a else
     nothing
 
@@ -93,7 +93,7 @@ value_outcome v =
 
 -- "both formulas true, the value; only S false, abort; otherwise error. For a halt: abort if only S is false, else error."
 unfoldable pub result_outcome : Bool → Bool → Bool → Reading → Outcome
-result_outcome s t halted v = if t then (if s then (if halted then Error else value_outcome v) else Abort) else Error
+result_outcome s t halted v = when t then (when s then (when halted then Error else value_outcome v) else Abort) else Error
 
 -- ---- Read: "3 as above."
 
@@ -105,7 +105,7 @@ numbers_taken (x ∷ xs) (n ∷ ns) = (if x.kind equals free_truth then ltb n 2 
 
 -- 14: "the result's S or T is no truth below the count, or its value is a binding or not below the count"; a halt has no value
 unfoldable pub result_taken : List Term → Result → Bool
-result_taken ts r = names_truth ts r.state.assumed && (names_truth ts r.state.asserted && (if r.halted then true else names_value ts r.value))
+result_taken ts r = names_truth ts r.state.assumed && (names_truth ts r.state.asserted && (when r.halted then true else names_value ts r.value))
 
 unfoldable pub read_in : List Reading → Result → Outcome
 read_in vs r = result_outcome (is_true (nth vs r.state.assumed)) (is_true (nth vs r.state.asserted)) r.halted (nth vs r.value)

@@ -1,7 +1,7 @@
 -- What is a rule: the refusals 4 to 7 (document 01, "Rule records" and "Evaluate"). Each test goes over all records before the next begins.
 -- Assumes nothing.
 use Rattle.std.specs.Prelude.{ℕ, zero, suc, ◌+◌, ◌%◌, Bool, true, false, not, ◌&&◌, ◌||◌, List, [], ◌∷◌, eqb, ltb, length}
-use Rattle.notation.specs.Notation.{with, if◌then◌else◌, if◌equals◌then◌else◌, if◌below◌then◌else◌, unless◌then◌else◌, up_to, every}
+use Rattle.notation.specs.Notation.{with, when◌then◌else◌, if◌equals◌then◌else◌, if◌below◌then◌else◌, unless◌then◌else◌, up_to, every}
 use Rattle.words.specs.Words.{word_fields}
 use Rattle.operators.specs.Operators.{operands_of}
 use Rattle.semantics.specs.declared.Record.{Record}
@@ -117,4 +117,4 @@ tests_of s n =
     0
 
 unfoldable pub rule_refusal_of : List ℕ → ℕ
-rule_refusal_of s = if bad_rule_size (length s) then rule_size else tests_of s (records_in s)
+rule_refusal_of s = when bad_rule_size (length s) then rule_size else tests_of s (records_in s)

@@ -1,6 +1,6 @@
 -- The concrete run (document 01, "The concrete run"; the paper's figure 3). Nothing in it comes from table or formulas. Assumes nothing.
 use Rattle.std.specs.Prelude.{ℕ, zero, suc, Bool, true, false, not, List, [], ◌∷◌, eqb}
-use Rattle.notation.specs.Notation.{if◌then◌else◌, if◌equals◌then◌else◌, if◌below◌then◌else◌}
+use Rattle.notation.specs.Notation.{when◌then◌else◌, if◌equals◌then◌else◌, if◌below◌then◌else◌}
 use Rattle.operators.specs.Operators.{operands_of, gives_truth_of, operate_of}
 use Rattle.semantics.specs.declared.Record.{Record}
 use Rattle.semantics.specs.declared.Input.{Input}
@@ -83,14 +83,14 @@ word_in none = 0
 
 -- what a code from 1 to 12 gives on words
 unfoldable pub operation_value : ℕ → ℕ → ℕ → Value
-operation_value op x y = if gives_truth_of op then truth (eqb (operate_of op x y) 1) else word (operate_of op x y)
+operation_value op x y = when gives_truth_of op then truth (eqb (operate_of op x y) 1) else word (operate_of op x y)
 
 unfoldable pub words_run : ℕ → Value → Value → Bool
-words_run op x y = if is_aword x then (if operands_of op equals 1 then true else is_aword y) else false
+words_run op x y = when is_aword x then (if operands_of op equals 1 then true else is_aword y) else false
 
 unfoldable pub operator_run : ℕ → Value → Value → Ended
 operator_run op x y =
-    if op below not_code then (if words_run op x y then gives (operation_value op (word_in x) (word_in y)) else errs) else
+    if op below not_code then (when words_run op x y then gives (operation_value op (word_in x) (word_in y)) else errs) else
     if op equals not_code then gives (truth (is_false x)) else
     if op equals is_word_code then gives (truth (is_aword x)) else
     gives (truth (is_aprocedure x))
@@ -118,7 +118,7 @@ expression_run look rule run x i =
     if x.kind equals call_record then (λ e. call_run run rule (look x.p e) (look x.q e)) else
     if x.kind equals operator_record then (λ e. operator_run x.op (look x.p e) (look x.q e)) else
     if x.kind equals let_record then (λ e. after (run x.p e) λ v. run x.q (binding v e)) else
-    if x.kind equals if_record then (λ e. (if is_false (look x.p e) then run x.r else run x.q) e) else
+    if x.kind equals if_record then (λ e. (when is_false (look x.p e) then run x.r else run x.q) e) else
     if x.kind equals abort_record then (λ e. aborts) else
     (λ e. errs)
 

@@ -2,7 +2,7 @@
 -- it may take or the span of words, or that its kind is open, as for procedures and bindings." Assumes nothing.
 use Rattle.std.specs.Prelude.{ℕ, ◌+◌, ◌-◌, ◌*◌, min, max, Bool, true, false, ◌&&◌, List, [], ◌∷◌, eqb, leb, length, get_or}
 use Rattle.std.proofs.lemmas.List.Edits.{sets}
-use Rattle.notation.specs.Notation.{with, if◌then◌else◌, if◌equals◌then◌else◌, if◌below◌then◌else◌, unless◌then◌else◌}
+use Rattle.notation.specs.Notation.{with, when◌then◌else◌, if◌equals◌then◌else◌, if◌below◌then◌else◌, unless◌then◌else◌}
 use Rattle.words.specs.Words.{width, last_word, sum_of, difference_of}
 use Rattle.operators.specs.Operators.{gives_truth_of}
 use Rattle.semantics.specs.declared.Term.{Term}
@@ -55,20 +55,20 @@ are_truths x y = if x.sort equals truth_term then eqb y.sort truth_term else fal
 -- "A sum [...] of two spans that cannot wrap reports exactly what their ends give"; it cannot where the highs' sum is a word
 unfoldable pub sum_report : Report → Report → Report
 sum_report x y =
-    with (are_spans x y) λ b. if b then (if last_word below x.high + y.high then all_words else
+    with (are_spans x y) λ b. when b then (if last_word below x.high + y.high then all_words else
     with (sum_of width x.low y.low) λ l. with (sum_of width x.high y.high) λ h. word_report l h) else all_words
 
 -- "A [...] difference of two spans that cannot wrap reports exactly what their ends give": the low less the other's high, the high less the other's
 -- low; it cannot where the first starts at or above the second's high
 unfoldable pub difference_report : Report → Report → Report
 difference_report x y =
-    with (are_spans x y) λ b. if b then (if x.low below y.high then all_words else
+    with (are_spans x y) λ b. when b then (if x.low below y.high then all_words else
     with (difference_of width x.low y.high) λ l. with (difference_of width x.high y.low) λ h. word_report l h) else all_words
 
 -- "Less is true if the first span ends below the second's low, false if it starts at or above the second's high"
 unfoldable pub less_report : Report → Report → Report
 less_report x y =
-    with (are_spans x y) λ b. if b then (
+    with (are_spans x y) λ b. when b then (
     if x.high below y.low then truth_report 1 1 else
     if x.low below y.high then both_truths else
     truth_report 0 0) else both_truths
@@ -79,15 +79,15 @@ not_report x = if x.sort equals truth_term then (with (1 - x.high) λ l. with (1
 
 -- and is the smaller of two truths: it may be true if both may, false if one may
 unfoldable pub and_report : Report → Report → Report
-and_report x y = with (are_truths x y) λ b. if b then (with (min x.low y.low) λ l. with (min x.high y.high) λ h. truth_report l h) else both_truths
+and_report x y = with (are_truths x y) λ b. when b then (with (min x.low y.low) λ l. with (min x.high y.high) λ h. truth_report l h) else both_truths
 
 -- or is the larger
 unfoldable pub or_report : Report → Report → Report
-or_report x y = with (are_truths x y) λ b. if b then (with (max x.low y.low) λ l. with (max x.high y.high) λ h. truth_report l h) else both_truths
+or_report x y = with (are_truths x y) λ b. when b then (with (max x.low y.low) λ l. with (max x.high y.high) λ h. truth_report l h) else both_truths
 
 -- "any other word operator reports 0 to 65,535"; "every other truth reports both"
 unfoldable pub other_report : ℕ → Report
-other_report op = with (gives_truth_of op) λ b. if b then both_truths else all_words
+other_report op = with (gives_truth_of op) λ b. when b then both_truths else all_words
 
 unfoldable pub operator_report : ℕ → Report → Report → Report
 operator_report op x y =
@@ -107,7 +107,7 @@ cover_of x y = if x.sort equals y.sort then (with (min x.low y.low) λ l. with (
 
 -- "a choice reports the decided side, else the smallest report that covers both"
 unfoldable pub choice_report : Report → Report → Report → Report
-choice_report x y z = with (only_true x) λ b. if b then y else with (only_false x) λ d. if d then z else cover_of y z
+choice_report x y z = with (only_true x) λ b. when b then y else with (only_false x) λ d. when d then z else cover_of y z
 
 -- ---- a term, of the reports of a, b and c; each free input has a least and a greatest number. "a constant reports itself alone and a free word its own
 -- span"

@@ -1,7 +1,7 @@
 -- Terms and tables (document 01, "Terms"). The terms of a table are a list, newest first: a term's number is how many stand after it.
 -- Assumes nothing.
 use Rattle.std.specs.Prelude.{ℕ, zero, suc, ◌*◌, Bool, true, false, not, ◌&&◌, ◌||◌, List, [], ◌∷◌, ◌++◌, eqb, ltb, take, drop, length, replicate}
-use Rattle.notation.specs.Notation.{pick, with, if◌then◌else◌, if◌equals◌then◌else◌, if◌below◌then◌else◌}
+use Rattle.notation.specs.Notation.{pick, with, when◌then◌else◌, if◌equals◌then◌else◌, if◌below◌then◌else◌}
 use Rattle.words.specs.Words.{word_fields, low_of, high_of, join_of}
 use Rattle.operators.specs.Operators.{operands_of, gives_truth_of}
 use Rattle.semantics.specs.declared.Term.{Term}
@@ -77,7 +77,7 @@ sort_of t =
     if t.kind equals word_term then word_term else
     if t.kind equals free_truth_term then truth_term else
     if t.kind equals free_word_term then word_term else
-    if t.kind equals operator_term then (if gives_truth_of t.op then truth_term else word_term) else
+    if t.kind equals operator_term then (when gives_truth_of t.op then truth_term else word_term) else
     if t.kind equals choice_term then choice_term else
     if t.kind equals procedure_term then procedure_term else
     if t.kind equals binding_term then binding_term else

@@ -1,7 +1,7 @@
 -- The terms under a result (document 02: "S, T, the value and the terms under them"): those that its reading is made of, as marks by their numbers.
 -- Assumes nothing.
 use Rattle.std.specs.Prelude.{◌≡◌, ℕ, ◌<◌, Bool, true, false, not, ◌&&◌, ◌||◌, List, [], ◌∷◌, eqb, ltb, length}
-use Rattle.notation.specs.Notation.{if◌then◌else◌, if◌equals◌then◌else◌}
+use Rattle.notation.specs.Notation.{when◌then◌else◌, if◌equals◌then◌else◌}
 use Rattle.operators.specs.Operators.{operands_of}
 use Rattle.semantics.specs.declared.Term.{Term}
 use Rattle.semantics.specs.declared.Result.{Result}
@@ -33,7 +33,7 @@ with_lower n t m = with_term (from_third t) n t.c (with_term (from_second t) n t
 -- from the newest term down: a marked one marks those that it is read from
 unfoldable pub down_from : List Term → (ℕ → Bool) → ℕ → Bool
 down_from [] m = m
-down_from (t ∷ ts) m = down_from ts (if m (length ts) then with_lower (length ts) t m else m)
+down_from (t ∷ ts) m = down_from ts (when m (length ts) then with_lower (length ts) t m else m)
 
 -- S, T and the value; a halt has no value
 unfoldable pub named_by : ℕ → Result → ℕ → Bool

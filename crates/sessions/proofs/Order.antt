@@ -5,7 +5,7 @@ use mathlib.Core.List.{List}
 use Prim.Native.Nat.{ℕ, ◌<◌, ◌≤◌}
 use native.Mathlib.Omega.{arith}
 use borrow.Author.Tests.{lt-ltb, le-ltb, le-leb, lt-leb}
-use Rattle.notation.specs.Notation.{pick, with, if◌then◌else◌, if◌below◌then◌else◌, unless◌then◌else◌}
+use Rattle.notation.specs.Notation.{pick, with, when◌then◌else◌, if◌below◌then◌else◌, unless◌then◌else◌}
 use Rattle.semantics.specs.declared.Session.{Session}
 use Rattle.semantics.specs.declared.Answer.TheVariants.{Refused}
 use Rattle.semantics.specs.declared.Evaluated.{Evaluated}
@@ -34,17 +34,17 @@ module _ (x : Session) (s rule : List ℕ) (allowance : ℕ) {b : Bool} (eb : b 
 
     module _ (l : k ≤ 0) {d : Bool} (ed : d ≡ bad_depth allowance) where
       pub refused_allowance : d ≡ true → Refuses bad_allowance x s rule allowance
-      unfolding evaluate_of refused_by unless◌then◌else◌ with if◌below◌then◌else◌ if◌then◌else◌
+      unfolding evaluate_of refused_by unless◌then◌else◌ with if◌below◌then◌else◌ when◌then◌else◌
       refused_allowance i = rw (← eb, h, ← ek, le-ltb _ _ l, ← ed, i)
 
       module _ (i : d ≡ false) where
         pub refused_spent : rule_limit ≤ x.accepted → Refuses rules_spent x s rule allowance
-        unfolding evaluate_of refused_by unless◌then◌else◌ with if◌below◌then◌else◌ if◌then◌else◌
+        unfolding evaluate_of refused_by unless◌then◌else◌ with if◌below◌then◌else◌ when◌then◌else◌
         refused_spent m = rw (← eb, h, ← ek, le-ltb _ _ l, ← ed, i, le-leb _ _ m)
 
         module _ (m : x.accepted < rule_limit) {v : Evaluated × List ℕ} where
           pub answered_halt : x.halted ≡ true → v ≡ halted_again x s → v ≡ evaluate_of rule allowance x s
-          unfolding evaluate_of unless◌then◌else◌ with if◌below◌then◌else◌ if◌then◌else◌
+          unfolding evaluate_of unless◌then◌else◌ with if◌below◌then◌else◌ when◌then◌else◌
           answered_halt j e = rw (← eb, h, ← ek, le-ltb _ _ l, ← ed, i, lt-leb _ _ m) (go x.halted j)
             where
               go : (a : Bool) → a ≡ true → v ≡ pick a halted_again (evaluated rule allowance) x s
@@ -52,7 +52,7 @@ module _ (x : Session) (s rule : List ℕ) (allowance : ℕ) {b : Bool} (eb : b 
               go false p = never p
 
           pub answered : x.halted ≡ false → v ≡ evaluated rule allowance x s → v ≡ evaluate_of rule allowance x s
-          unfolding evaluate_of unless◌then◌else◌ with if◌below◌then◌else◌ if◌then◌else◌
+          unfolding evaluate_of unless◌then◌else◌ with if◌below◌then◌else◌ when◌then◌else◌
           answered j e = rw (← eb, h, ← ek, le-ltb _ _ l, ← ed, i, lt-leb _ _ m) (go x.halted j)
             where
               go : (a : Bool) → a ≡ false → v ≡ pick a halted_again (evaluated rule allowance) x s

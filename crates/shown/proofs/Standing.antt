@@ -8,7 +8,7 @@ use native.Mathlib.Omega.{arith}
 use lib.Dec.{eqb}
 use lib.ListN.{length, get_or, replicate}
 use borrow.Author.Tests.{eqb-true, eqb-false}
-use Rattle.notation.specs.Notation.{pick, if◌then◌else◌, if◌equals◌then◌else◌}
+use Rattle.notation.specs.Notation.{pick, when◌then◌else◌, if◌equals◌then◌else◌}
 use Rattle.words.specs.Words.{last_word}
 use Rattle.semantics.specs.declared.Term.{Term}
 use Rattle.semantics.specs.declared.Input.{Input}
@@ -92,19 +92,19 @@ module _ (xs : List Input) (spanned : Bool) (lows highs : List ℕ) (n : length 
   high i = get_or (pick spanned highs (replicate input_count last_word)) i 0
 
   pub least_length : length (least_of spanned xs lows) ≡ input_count
-  unfolding least_of if◌then◌else◌
+  unfolding least_of when◌then◌else◌
   least_length = let g = given spanned lows 0 nl in ends_length 0 xs (pick spanned lows (replicate input_count 0)) (omega arith) ∙ g
 
   pub greatest_length : length (greatest_of spanned xs highs) ≡ input_count
-  unfolding greatest_of if◌then◌else◌
+  unfolding greatest_of when◌then◌else◌
   greatest_length = let g = given spanned highs last_word nh in ends_length 1 xs (pick spanned highs (replicate input_count last_word)) (omega arith) ∙ g
 
   pub least_at : (i : ℕ) → i < input_count → get_or (least_of spanned xs lows) i 0 ≡ end_of 0 (get_or xs i no_input) (low i)
-  unfolding least_of if◌then◌else◌
+  unfolding least_of when◌then◌else◌
   least_at i h = let g = given spanned lows 0 nl in ends_at 0 xs (pick spanned lows (replicate input_count 0)) i no_input (omega arith) (omega arith)
 
   pub greatest_at : (i : ℕ) → i < input_count → get_or (greatest_of spanned xs highs) i 0 ≡ end_of 1 (get_or xs i no_input) (high i)
-  unfolding greatest_of if◌then◌else◌
+  unfolding greatest_of when◌then◌else◌
   greatest_at i h = let g = given spanned highs last_word nh in ends_at 1 xs (pick spanned highs (replicate input_count last_word)) i no_input (omega arith) (omega arith)
 
   -- ---- a reading that counts, as it stands, lies in the box

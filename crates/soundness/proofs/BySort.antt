@@ -8,7 +8,7 @@ use native.Mathlib.Omega.{arith}
 use lib.ListN.{length, get_or}
 use lib.Dec.{eqb, ltb}
 use borrow.Author.Tests.{eqb-true}
-use Rattle.notation.specs.Notation.{pick, if◌then◌else◌, if◌equals◌then◌else◌, if◌below◌then◌else◌}
+use Rattle.notation.specs.Notation.{pick, when◌then◌else◌, if◌equals◌then◌else◌, if◌below◌then◌else◌}
 use Rattle.operators.specs.Operators.{gives_truth_of, row_of}
 use Rattle.semantics.specs.declared.Term.{Term}
 use Rattle.semantics.specs.Numbers.{truth_term, word_term, free_truth_term, free_word_term, operator_term, choice_term, procedure_term, binding_term, is_word_code, is_procedure_code, negation_code, conjunction_code, disjunction_code, truth_code}
@@ -41,8 +41,8 @@ kind_eq {t} {x} {y} i j f g = go (eqb i j) refl
     go true e = f (eqb-true i j e)
     go false e = g
 
-kind_if : {t : Term} {x y : ℕ} (b : Bool) → (b ≡ true → Kind t x) → (b ≡ false → Kind t y) → Kind t (if b then x else y)
-unfolding if◌then◌else◌
+kind_if : {t : Term} {x y : ℕ} (b : Bool) → (b ≡ true → Kind t x) → (b ≡ false → Kind t y) → Kind t (when b then x else y)
+unfolding when◌then◌else◌
 kind_if true f g = f refl
 kind_if false f g = g refl
 
@@ -88,8 +88,8 @@ module _ (ns : List ℕ) (f : ℕ → Value) (t : Term) where
 
 -- ---- operators give truths or words
 module _ (P : Value → Type 0) {x y : Value} where
-  value_if : (b : Bool) → P x → P y → P (if b then x else y)
-  unfolding if◌then◌else◌
+  value_if : (b : Bool) → P x → P y → P (when b then x else y)
+  unfolding when◌then◌else◌
   value_if true f g = f
   value_if false f g = g
 
@@ -123,19 +123,19 @@ unfolding word_in
 a_word w = record { is = refl }
 
 operation_truth : (op x y : ℕ) → gives_truth_of op ≡ true → IsTruth (operation_value op x y)
-unfolding operation_value if◌then◌else◌
+unfolding operation_value when◌then◌else◌
 operation_truth op x y h = rw h (a_truth _)
 
 operation_word : (op x y : ℕ) → gives_truth_of op ≡ false → IsWord (operation_value op x y)
-unfolding operation_value if◌then◌else◌
+unfolding operation_value when◌then◌else◌
 operation_word op x y h = rw h (a_word _)
 
 wrong_truth : (op : ℕ) → gives_truth_of op ≡ true → IsTruth (wrong_value op)
-unfolding wrong_value if◌then◌else◌
+unfolding wrong_value when◌then◌else◌
 wrong_truth op h = rw h (a_truth false)
 
 wrong_word : (op : ℕ) → gives_truth_of op ≡ false → IsWord (wrong_value op)
-unfolding wrong_value if◌then◌else◌
+unfolding wrong_value when◌then◌else◌
 wrong_word op h = rw h (a_word 0)
 
 pub operator_truth : (op : ℕ) (x y : Value) → gives_truth_of op ≡ true → IsTruth (operator_meaning op x y)

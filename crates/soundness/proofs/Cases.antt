@@ -6,7 +6,7 @@ use Prim.Native.Nat.{ℕ, zero, suc, ◌<◌, ◌≤◌}
 use native.Mathlib.Omega.{arith}
 use lib.Dec.{eqb}
 use borrow.Author.Tests.{eqb-true, eqb-false, eq-eqb, ne_eqb, lt-ltb, le-ltb}
-use Rattle.notation.specs.Notation.{pick, with, if◌then◌else◌, if◌equals◌then◌else◌, if◌below◌then◌else◌}
+use Rattle.notation.specs.Notation.{pick, with, when◌then◌else◌, if◌equals◌then◌else◌, if◌below◌then◌else◌}
 use Rattle.operators.specs.Operators.{operands_of}
 use Rattle.semantics.specs.declared.Term.{Term}
 use Rattle.semantics.specs.declared.State.{State}
@@ -57,7 +57,7 @@ asserted_live false t x h = never h
 -- ---- operators 1 to 12
 module _ (op : ℕ) (v w : Value) where
   words_one_is : operands_of op ≡ 1 → words_run op v w ≡ is_aword v
-  unfolding words_run if◌then◌else◌ if◌equals◌then◌else◌
+  unfolding words_run when◌then◌else◌ if◌equals◌then◌else◌
   words_one_is e = rw e (go (is_aword v))
     where
       go : (b : Bool) → pick b true false ≡ b
@@ -65,7 +65,7 @@ module _ (op : ℕ) (v w : Value) where
       go false = refl
 
   words_two_is : (operands_of op ≡ 1 → ⊥) → words_run op v w ≡ (is_aword v && is_aword w)
-  unfolding words_run if◌then◌else◌ if◌equals◌then◌else◌
+  unfolding words_run when◌then◌else◌ if◌equals◌then◌else◌
   words_two_is e = rw (ne_eqb _ _ e) (go (is_aword v))
     where
       go : (b : Bool) → pick b (is_aword w) false ≡ (b && is_aword w)
@@ -77,7 +77,7 @@ module _ (op : ℕ) (v w : Value) where
   unfolding words_run if◌equals◌then◌else◌
   words_same u q = go (eqb (operands_of op) 1) refl
     where
-      go : (b : Bool) → eqb (operands_of op) 1 ≡ b → (if is_aword v then (pick (eqb (operands_of op) 1) true (is_aword w)) else false) ≡ (if is_aword v then (pick (eqb (operands_of op) 1) true (is_aword u)) else false)
+      go : (b : Bool) → eqb (operands_of op) 1 ≡ b → (when is_aword v then (pick (eqb (operands_of op) 1) true (is_aword w)) else false) ≡ (when is_aword v then (pick (eqb (operands_of op) 1) true (is_aword u)) else false)
       go true e = rw e
       go false e = rw (q (eqb-false _ _ e))
 
@@ -86,7 +86,7 @@ operated op v w = pick (words_run op v w) (gives (operator_meaning op v w)) errs
 
 -- what the operator gives on its operands is what the run gives, whatever is taken for a second operand that there is none of
 pub operated_is : (op : ℕ) (v w u : Value) → op < not_code → ((operands_of op ≡ 1 → ⊥) → w ≡ u) → operated op v w ≡ operator_run op v u
-unfolding operator_run if◌below◌then◌else◌ if◌then◌else◌
+unfolding operator_run if◌below◌then◌else◌ when◌then◌else◌
 operated_is op v w u l q = rw (lt-ltb op not_code l, sym (words_same op v w u q)) (go (words_run op v w) refl)
   where
     value_same : operation_value op (word_in v) (word_in w) ≡ operation_value op (word_in v) (word_in u)
@@ -164,8 +164,8 @@ pub record Branches (ns : List ℕ) (o : Seen) (c : Bool) (ts : List Term) (bs :
   pub branches : BranchesMean ns ts o bs xs
   pub covers : any xs ≡ c
 
-if_run : (b : Bool) (f g : Running) (E : Value) → pick (not b) (f E) (g E) ≡ (if b then g else f) E
-unfolding if◌then◌else◌
+if_run : (b : Bool) (f g : Running) (E : Value) → pick (not b) (f E) (g E) ≡ (when b then g else f) E
+unfolding when◌then◌else◌
 if_run true f g E = refl
 if_run false f g E = refl
 
@@ -348,7 +348,7 @@ module _ {l n : ℕ} {ns : List ℕ} {ts : List Term} {e : ℕ} {x : State} {s t
     part : {us : List Term} → Step n ts us → (i : ℕ) → Does l n (run i e x) us (Sim ns (on s t (rn i E))) (Spends ts s t (rn i E))
     part {us} z i = does_refused z.fit (λ k m. spends_back z m) (ih i e x us s t E z.fit (bindings_step z entry.env) (state_step_lem z entry.state))
 
-    pub if_sim : (p q r : ℕ) → Sound l n ns ts s t ((if is_false (look_of p E) then rn r else rn q) E) (if_of run p q r e x)
+    pub if_sim : (p q r : ℕ) → Sound l n ns ts s t ((when is_false (look_of p E) then rn r else rn q) E) (if_of run p q r e x)
     unfolding if_of
     if_sim p q r =
         subst (λ o. Sound l n ns ts s t o (if_of run p q r e x)) (if_run (is_false (look_of p E)) (rn q) (rn r) E)

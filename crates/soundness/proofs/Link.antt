@@ -7,7 +7,7 @@ use native.Mathlib.Omega.{arith}
 use lib.ListN.{get_or}
 use lib.Dec.{eqb, ltb}
 use borrow.Author.Tests.{eqb-true, ltb-true, lt-ltb}
-use Rattle.notation.specs.Notation.{pick, with, if◌then◌else◌, if◌equals◌then◌else◌, if◌below◌then◌else◌}
+use Rattle.notation.specs.Notation.{pick, with, when◌then◌else◌, if◌equals◌then◌else◌, if◌below◌then◌else◌}
 use Rattle.operators.specs.Operators.{operands_of, gives_truth_of, bit_of, operate_of}
 use Rattle.semantics.specs.declared.Term.{Term}
 use Rattle.semantics.specs.declared.Reading.{Reading}
@@ -101,15 +101,15 @@ bit_small false = omega arith
 
 module _ (op : ℕ) where
   words_same : (x y : Value) → operands_are_words op (reading_in x) (reading_in y) ≡ words_run op x y
-  unfolding operands_are_words words_run with if◌then◌else◌
+  unfolding operands_are_words words_run with when◌then◌else◌
   words_same x y = rw (word_same x, word_same y)
 
   result_truth : (w : ℕ) → gives_truth_of op ≡ true → result_reading op w ≡ reading_of truth_term w
-  unfolding result_reading with if◌then◌else◌
+  unfolding result_reading with when◌then◌else◌
   result_truth w h = rw h
 
   result_word : (w : ℕ) → gives_truth_of op ≡ false → result_reading op w ≡ reading_of word_term w
-  unfolding result_reading with if◌then◌else◌
+  unfolding result_reading with when◌then◌else◌
   result_word w h = rw h
 
   -- a truth is 0 or 1
@@ -129,7 +129,7 @@ module _ (op : ℕ) where
       go false h = result_word (operate_of op x y) h ∙ ap reading_in (sym (operation_word op x y h))
 
   wrong_same : result_reading op 0 ≡ reading_in (wrong_value op)
-  unfolding wrong_value result_reading with if◌then◌else◌
+  unfolding wrong_value result_reading with when◌then◌else◌
   wrong_same = go (gives_truth_of op)
     where
       go : (b : Bool) → pick b (reading_of truth_term 0) (reading_of word_term 0) ≡ reading_in (pick b (truth false) (word 0))
@@ -137,7 +137,7 @@ module _ (op : ℕ) where
       go false = refl
 
 first_word : (op : ℕ) (x y : Value) → words_run op x y ≡ true → is_aword x ≡ true
-unfolding words_run if◌then◌else◌
+unfolding words_run when◌then◌else◌
 first_word op x y h = go (is_aword x) refl
   where
     go : (b : Bool) → is_aword x ≡ b → is_aword x ≡ true
@@ -145,7 +145,7 @@ first_word op x y h = go (is_aword x) refl
     go false e = never (rw e at h)
 
 second_number : (op : ℕ) (x y : Value) → op < not_code → words_run op x y ≡ true → operate_of op (word_in x) (reading_in y).number ≡ operate_of op (word_in x) (word_in y)
-unfolding words_run if◌then◌else◌ if◌equals◌then◌else◌
+unfolding words_run when◌then◌else◌ if◌equals◌then◌else◌
 second_number op x y l h = go (eqb (operands_of op) 1) refl
   where
     go : (b : Bool) → eqb (operands_of op) 1 ≡ b → operate_of op (word_in x) (reading_in y).number ≡ operate_of op (word_in x) (word_in y)
@@ -153,7 +153,7 @@ second_number op x y l h = go (eqb (operands_of op) 1) refl
     go false e = ap (operate_of op (word_in x)) (number_same y (rw (first_word op x y h, e) at h))
 
 operation_same : (op : ℕ) (x y : Value) → op < not_code → operation_reading op (reading_in x) (reading_in y) ≡ reading_in (operator_meaning op x y)
-unfolding operation_reading operator_meaning with if◌then◌else◌ if◌below◌then◌else◌
+unfolding operation_reading operator_meaning with when◌then◌else◌ if◌below◌then◌else◌
 operation_same op x y l = rw (lt-ltb op not_code l, words_same op x y) (go (words_run op x y) refl)
   where
     go : (b : Bool) → words_run op x y ≡ b
@@ -246,8 +246,8 @@ module _ (ns : List ℕ) (n : ℕ) (us : List Term) (t : Term) (x y z : Value) (
   constant_same (suc zero) l = refl
   constant_same (suc (suc a)) l = absurd (omega arith)
 
-  choice_same : (if is_true (reading_in x) then reading_in y else reading_in z) ≡ reading_in (pick (isTrueValue x) y z)
-  unfolding if◌then◌else◌
+  choice_same : (when is_true (reading_in x) then reading_in y else reading_in z) ≡ reading_in (pick (isTrueValue x) y z)
+  unfolding when◌then◌else◌
   choice_same = rw (true_same x) (go (isTrueValue x))
     where
       go : (b : Bool) → pick b (reading_in y) (reading_in z) ≡ reading_in (pick b y z)

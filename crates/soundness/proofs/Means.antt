@@ -7,7 +7,7 @@ use Prim.Native.Nat.{ℕ, ◌<◌, ◌≤◌}
 use lib.ListN.{length, get_or}
 use lib.Dec.{eqb}
 use borrow.Author.Tests.{eqb-true}
-use Rattle.notation.specs.Notation.{pick, if◌then◌else◌, if◌equals◌then◌else◌, if◌below◌then◌else◌}
+use Rattle.notation.specs.Notation.{pick, when◌then◌else◌, if◌equals◌then◌else◌, if◌below◌then◌else◌}
 use Rattle.operators.specs.Operators.{gives_truth_of}
 use Rattle.semantics.specs.declared.Term.{Term}
 use Rattle.semantics.specs.Numbers.{truth_term, word_term, free_truth_term, free_word_term, operator_term, choice_term, procedure_term, binding_term, not_code, is_word_code, is_procedure_code, negation_code, conjunction_code, disjunction_code, truth_code, no_binding, term_limit}
@@ -44,11 +44,11 @@ is_proper none = false
 
 -- ---- operator terms: "An operator term with an operand of the wrong kind reads as word 0 or false."
 unfoldable pub wrong_value : ℕ → Value
-wrong_value op = if gives_truth_of op then truth false else word 0
+wrong_value op = when gives_truth_of op then truth false else word 0
 
 unfoldable pub operator_meaning : ℕ → Value → Value → Value
 operator_meaning op x y =
-    if op below not_code then (if words_run op x y then operation_value op (word_in x) (word_in y) else wrong_value op) else
+    if op below not_code then (when words_run op x y then operation_value op (word_in x) (word_in y) else wrong_value op) else
     if op equals is_word_code then truth (is_aword x) else
     if op equals is_procedure_code then truth (is_aprocedure x) else
     if op equals negation_code then truth (is_truth x && not (is_true x)) else

@@ -9,7 +9,7 @@ use lib.Dec.{eqb, ltb}
 use borrow.Author.Tests.{eqb-true, ne_eqb, lt-ltb}
 use Rattle.words.specs.Words.{width}
 use Rattle.words.proofs.Words.{zero_product, product_zero, zero_and, and_zero}
-use Rattle.notation.specs.Notation.{pick, with, if◌then◌else◌, if◌equals◌then◌else◌, if◌below◌then◌else◌}
+use Rattle.notation.specs.Notation.{pick, with, when◌then◌else◌, if◌equals◌then◌else◌, if◌below◌then◌else◌}
 use Rattle.operators.specs.Operators.{operands_of, gives_truth_of, row_of, bit_of, operate_of}
 use Rattle.semantics.specs.declared.Term.{Term}
 use Rattle.semantics.specs.Numbers.{word_term, operator_term, multiply_code, bitwise_and_code, not_code, false_number, true_number, table_full}
@@ -43,11 +43,11 @@ unfolding operation_value
 one_value op x y z l h = rw (one_operand op x y z l h)
 
 pub operation_truth : (op x y : ℕ) → gives_truth_of op ≡ true → operation_value op x y ≡ truth (eqb (operate_of op x y) 1)
-unfolding operation_value if◌then◌else◌
+unfolding operation_value when◌then◌else◌
 operation_truth op x y h = rw h
 
 pub operation_word : (op x y : ℕ) → gives_truth_of op ≡ false → operation_value op x y ≡ word (operate_of op x y)
-unfolding operation_value if◌then◌else◌
+unfolding operation_value when◌then◌else◌
 operation_word op x y h = rw h
 
 -- a test between two that are the same
@@ -57,19 +57,19 @@ pick_same false = refl
 
 module _ (op : ℕ) (v w : Value) where
   pub operator_words : op < not_code → words_run op v w ≡ true → operator_meaning op v w ≡ operation_value op (word_in v) (word_in w)
-  unfolding operator_meaning if◌below◌then◌else◌ if◌then◌else◌
+  unfolding operator_meaning if◌below◌then◌else◌ when◌then◌else◌
   operator_words l h = rw (lt-ltb op not_code l, h)
 
   pub words_one : is_aword v ≡ true → operands_of op ≡ 1 → words_run op v w ≡ true
-  unfolding words_run if◌then◌else◌ if◌equals◌then◌else◌
+  unfolding words_run when◌then◌else◌ if◌equals◌then◌else◌
   words_one h e = rw (h, e)
 
   pub words_two : is_aword v ≡ true → is_aword w ≡ true → words_run op v w ≡ true
-  unfolding words_run if◌then◌else◌ if◌equals◌then◌else◌
+  unfolding words_run when◌then◌else◌ if◌equals◌then◌else◌
   words_two h k = rw (h, k) (pick_same (eqb (operands_of op) 1))
 
   pub words_first : words_run op v w ≡ true → is_aword v ≡ true
-  unfolding words_run if◌then◌else◌
+  unfolding words_run when◌then◌else◌
   words_first h = go (is_aword v) refl
     where
       go : (b : Bool) → is_aword v ≡ b → is_aword v ≡ true
@@ -77,7 +77,7 @@ module _ (op : ℕ) (v w : Value) where
       go false e = never (rw e at h)
 
   pub words_second : words_run op v w ≡ true → (operands_of op ≡ 1 → ⊥) → is_aword w ≡ true
-  unfolding words_run if◌then◌else◌ if◌equals◌then◌else◌
+  unfolding words_run when◌then◌else◌ if◌equals◌then◌else◌
   words_second h d = rw (words_first h, ne_eqb _ _ d) at h
 
 -- ---- a constant that is a word
@@ -118,7 +118,7 @@ module _ (op : ℕ) (h : zero_absorbs_of op ≡ true) where
 
   -- on what is no word it reads as word 0 too
   absorbed_means : (v w : Value) → operate_of op (word_in v) (word_in w) ≡ 0 → operator_meaning op v w ≡ word 0
-  unfolding operator_meaning wrong_value operation_value if◌below◌then◌else◌ if◌then◌else◌
+  unfolding operator_meaning wrong_value operation_value if◌below◌then◌else◌ when◌then◌else◌
   absorbed_means v w e = rw (lt-ltb _ _ absorbed_few, absorbed_word, e) (pick_same (words_run op v w))
 
 -- the word constant 0 means word 0

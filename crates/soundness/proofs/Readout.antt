@@ -5,7 +5,7 @@ use mathlib.Core.Bool.{Bool, true, false, ◌&&◌}
 use mathlib.Core.List.{List}
 use Prim.Native.Nat.{ℕ, ◌+◌}
 use native.Mathlib.Omega.{arith}
-use Rattle.notation.specs.Notation.{if◌then◌else◌, if◌equals◌then◌else◌}
+use Rattle.notation.specs.Notation.{when◌then◌else◌, if◌equals◌then◌else◌}
 use Rattle.semantics.specs.declared.Term.{Term}
 use Rattle.semantics.specs.declared.State.{State}
 use Rattle.semantics.specs.declared.Result.{Result}
@@ -65,7 +65,7 @@ value_outcome_lem (binding v e) h = never h
 value_outcome_lem none h = never h
 
 result_outcome_lem : (s t h : Bool) (v : Value) → is_proper v ≡ true → (h ≡ true → (s && t) ≡ false) → result_outcome s t h (reading_in v) ≡ seen_outcome (on s t (gives v))
-unfolding result_outcome seen_outcome ended_outcome if◌then◌else◌
+unfolding result_outcome seen_outcome ended_outcome when◌then◌else◌
 result_outcome_lem true true true v p d = never (sym (d refl))
 result_outcome_lem true true false v p d = value_outcome_lem v p
 result_outcome_lem true false h v p d = refl

@@ -6,7 +6,7 @@ use Prim.Native.Nat.{ℕ, zero, suc, ◌+◌, ◌<◌, ◌≤◌}
 use native.Mathlib.Omega.{arith}
 use lib.Dec.{eqb, ltb}
 use borrow.Author.Tests.{eqb-true, ne_eqb, ltb-true, ltb-false}
-use Rattle.notation.specs.Notation.{pick, with, if◌then◌else◌, if◌equals◌then◌else◌, if◌below◌then◌else◌, In, here, there}
+use Rattle.notation.specs.Notation.{pick, with, when◌then◌else◌, if◌equals◌then◌else◌, if◌below◌then◌else◌, In, here, there}
 use Rattle.operators.specs.Operators.{operands_of, gives_truth_of, operate_of}
 use Rattle.semantics.specs.Numbers.{variable_record, procedure_record, call_record, operator_record, let_record, if_record, word_datum, true_datum, not_code, is_word_code, input_count}
 use Rattle.semantics.specs.declared.Record.{Record}
@@ -130,7 +130,7 @@ module _ (rule : List ℕ) (n : ℕ) (need : ℕ → ℕ) where
 
   -- ---- operators give truths and words
   operation_good : (op x y : ℕ) → GoodValue (operation_value op x y)
-  unfolding operation_value if◌then◌else◌
+  unfolding operation_value when◌then◌else◌
   operation_good op x y = go (gives_truth_of op)
     where
       go : (b : Bool) → GoodValue (pick b (truth (eqb (operate_of op x y) 1)) (word (operate_of op x y)))
@@ -138,7 +138,7 @@ module _ (rule : List ℕ) (n : ℕ) (need : ℕ → ℕ) where
       go false = record { proper = refl; good = tt }
 
   operator_good : (op : ℕ) (x y : Value) → GoodEnd (operator_run op x y)
-  unfolding operator_run if◌then◌else◌ if◌equals◌then◌else◌ if◌below◌then◌else◌
+  unfolding operator_run when◌then◌else◌ if◌equals◌then◌else◌ if◌below◌then◌else◌
   operator_good op x y = go (ltb op not_code) (words_run op x y) (eqb op not_code) (eqb op is_word_code)
     where
       go : (a b c d : Bool) → GoodEnd (pick a (pick b (gives (operation_value op (word_in x) (word_in y))) errs) (pick c (gives (truth (is_false x))) (pick d (gives (truth (is_aword x))) (gives (truth (is_aprocedure x))))))
@@ -176,8 +176,8 @@ module _ (rule : List ℕ) (n : ℕ) (need : ℕ → ℕ) where
       go true e = a (eqb-true i j e)
       go false e = b
 
-  agree_if : {E : Value} {f g h k : Running} (b : Bool) → AgreeAt E f g → AgreeAt E h k → AgreeAt E (if b then f else h) (if b then g else k)
-  unfolding if◌then◌else◌
+  agree_if : {E : Value} {f g h k : Running} (b : Bool) → AgreeAt E f g → AgreeAt E h k → AgreeAt E (when b then f else h) (when b then g else k)
+  unfolding when◌then◌else◌
   agree_if true a b = a
   agree_if false a b = b
 
@@ -234,8 +234,8 @@ module _ (rule : List ℕ) (n : ℕ) (need : ℕ → ℕ) where
           operator_second (record_at rule i).op _ _ _ (λ d. place_same (second_in (record_at rule i) q d))
 
       if_at : (record_at rule i).kind ≡ if_record
-          → Agree ((if is_false (look_of (record_at rule i).p E) then f (record_at rule i).r else f (record_at rule i).q) E)
-          ((if is_false (placed (record_at rule i).p E) then g (record_at rule i).r else g (record_at rule i).q) E)
+          → Agree ((when is_false (look_of (record_at rule i).p E) then f (record_at rule i).r else f (record_at rule i).q) E)
+          ((when is_false (placed (record_at rule i).p E) then g (record_at rule i).r else g (record_at rule i).q) E)
       if_at q =
           rw (place_same (tested_in (record_at rule i) q))
           (agree_if _ (record { is = level (no_in (record_at rule i) q) }) (record { is = level (yes_in (record_at rule i) q) })).is

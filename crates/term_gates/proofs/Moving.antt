@@ -7,7 +7,7 @@ use native.Mathlib.Omega.{arith}
 use lib.ListN.{length, get_or, get_or-eq_default}
 use lib.Dec.{eqb, ltb}
 use borrow.Author.Tests.{ltb-true, ltb-false, lt-ltb, le-ltb}
-use Rattle.notation.specs.Notation.{pick, with, if◌then◌else◌, if◌equals◌then◌else◌, if◌below◌then◌else◌}
+use Rattle.notation.specs.Notation.{pick, with, when◌then◌else◌, if◌equals◌then◌else◌, if◌below◌then◌else◌}
 use Rattle.words.specs.Words.{width}
 use Rattle.circuits.specs.Gates.{Literal, pos, Gate, gate, and2, clauses}
 use Rattle.circuits.specs.Circuits.{low, shifted_up, down, shifted_down, masks}
@@ -67,7 +67,7 @@ length_word = refl
 
 -- the number of the literal that a bit is after the shift
 moved_is : (up : Bool) (w j : ℕ) → j < width → literal_number (get_or (shifted up none w (word_a levels)) j none) ≡ moved_literal up w j
-unfolding moved_literal if◌then◌else◌ if◌below◌then◌else◌
+unfolding moved_literal when◌then◌else◌ if◌below◌then◌else◌
 moved_is true w j h = ap literal_number (up_at none w (word_a levels) j h) ∙ rw (lt-ltb j width h) (go (ltb j w) refl)
   where
     sum : (k : ℕ) → 2 * (4096 + (2 + k)) ≡ 2 * (4098 + k)
@@ -148,7 +148,7 @@ module _ (up : Bool) (w : ℕ) where
 module _ {A : Type 0} (f : List (Gate Wire) → A) (op : ℕ) (u : Term) where
   -- a shift by a constant
   pub by_shift : {b : Bool} → b ≡ by_constant op u → b ≡ true → {w : ℕ} → w ≡ term_word u → {r : A} → r ≡ f (shift_by_gates levels (shifted (eqb op left_code)) w) → r ≡ f (operation_gates op u)
-  unfolding by_constant operation_gates if◌then◌else◌ if◌equals◌then◌else◌
+  unfolding by_constant operation_gates when◌then◌else◌ if◌equals◌then◌else◌
   by_shift e h {w} ew q = q ∙ (ap (λ v. f (shift_by_gates levels (shifted (eqb op left_code)) v)) ew ∙ go (eqb u.kind word_term) (eqb op left_code) (eqb op right_code) (sym e ∙ h))
     where
       go : (a b c : Bool) → pick a (pick b true c) false ≡ true → f (shift_by_gates levels (shifted b) (term_word u))
@@ -159,8 +159,8 @@ module _ {A : Type 0} (f : List (Gate Wire) → A) (op : ℕ) (u : Term) where
       go false b c h = never h
 
   -- where all shifts by a constant give k
-  pub by_count : (k : A) → ((up : Bool) → f (shift_by_gates levels (shifted up) (term_word u)) ≡ k) → {b : Bool} → b ≡ by_constant op u → {r : A} → r ≡ (if b then k else f (code_gates op)) → r ≡ f (operation_gates op u)
-  unfolding by_constant operation_gates if◌then◌else◌ if◌equals◌then◌else◌
+  pub by_count : (k : A) → ((up : Bool) → f (shift_by_gates levels (shifted up) (term_word u)) ≡ k) → {b : Bool} → b ≡ by_constant op u → {r : A} → r ≡ (when b then k else f (code_gates op)) → r ≡ f (operation_gates op u)
+  unfolding by_constant operation_gates when◌then◌else◌ if◌equals◌then◌else◌
   by_count k s {b} e {r} q = q ∙ (ap (λ c. pick c k (f (code_gates op))) e ∙ go (eqb u.kind word_term) (eqb op left_code) (eqb op right_code))
     where
       go : (a b c : Bool) → pick (pick a (pick b true c) false) k (f (code_gates op))
@@ -172,7 +172,7 @@ module _ {A : Type 0} (f : List (Gate Wire) → A) (op : ℕ) (u : Term) where
 
   -- another operator
   pub by_code : {b : Bool} → b ≡ by_constant op u → b ≡ false → {r : A} → r ≡ f (code_gates op) → r ≡ f (operation_gates op u)
-  unfolding by_constant operation_gates if◌then◌else◌ if◌equals◌then◌else◌
+  unfolding by_constant operation_gates when◌then◌else◌ if◌equals◌then◌else◌
   by_code e h q = q ∙ go (eqb u.kind word_term) (eqb op left_code) (eqb op right_code) (sym e ∙ h)
     where
       go : (a b c : Bool) → pick a (pick b true c) false ≡ false

@@ -1,6 +1,6 @@
 -- A shift by a constant, bit by bit: what the code works with. Assumes nothing.
 use Rattle.std.specs.Prelude.{ℕ, ◌+◌, ◌-◌, ◌*◌, Bool, true, false, List, eqb}
-use Rattle.notation.specs.Notation.{if◌then◌else◌, if◌equals◌then◌else◌, if◌below◌then◌else◌, with}
+use Rattle.notation.specs.Notation.{when◌then◌else◌, if◌equals◌then◌else◌, if◌below◌then◌else◌, with}
 use Rattle.words.specs.Words.{width}
 use Rattle.circuits.specs.Gates.{Literal}
 use Rattle.circuits.specs.Circuits.{shifted_up, shifted_down}
@@ -21,7 +21,7 @@ none_number = 20485
 unfoldable pub moved_literal : Bool → ℕ → ℕ → ℕ
 moved_literal up w j =
     if j below width then (
-    if up then (if j below w then none_number else 2 * (4098 + (j - w))) else
+    when up then (if j below w then none_number else 2 * (4098 + (j - w))) else
     if w below width - j then 2 * (4098 + (j + w)) else
     none_number) else
     none_number

@@ -9,7 +9,7 @@ use native.Mathlib.Omega.{arith}
 use lib.ListN.{length, get_or, take, drop}
 use lib.Dec.{eqb}
 use borrow.Author.Tests.{eq-eqb, ne_eqb, lt-ltb, le-ltb}
-use Rattle.notation.specs.Notation.{pick, with, if◌then◌else◌, if◌equals◌then◌else◌, if◌below◌then◌else◌}
+use Rattle.notation.specs.Notation.{pick, with, when◌then◌else◌, if◌equals◌then◌else◌, if◌below◌then◌else◌}
 use Rattle.semantics.specs.declared.Term.{Term}
 use Rattle.semantics.specs.declared.Found.{Found}
 use Rattle.semantics.specs.Records.{record_bytes}
@@ -147,12 +147,12 @@ module _ {A : Type 0} (m l : Make A) {s : List ℕ} {n r c u : ℕ} {a : A} {y :
   unfolding if◌below◌then◌else◌
   if_ge i j h g = rw (le-ltb _ _ h) g
 
-  pub if_true : (b : Bool) → b ≡ true → Gives m s n r c u a y → Gives (if b then m else l) s n r c u a y
-  unfolding if◌then◌else◌
+  pub if_true : (b : Bool) → b ≡ true → Gives m s n r c u a y → Gives (when b then m else l) s n r c u a y
+  unfolding when◌then◌else◌
   if_true b h g = rw h g
 
-  pub if_false : (b : Bool) → b ≡ false → Gives l s n r c u a y → Gives (if b then m else l) s n r c u a y
-  unfolding if◌then◌else◌
+  pub if_false : (b : Bool) → b ≡ false → Gives l s n r c u a y → Gives (when b then m else l) s n r c u a y
+  unfolding when◌then◌else◌
   if_false b h g = rw h g
 
 module _ {A B : Type 0} {s : List ℕ} {n r c u : ℕ} {a : A} {y : List ℕ} where

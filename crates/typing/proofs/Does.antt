@@ -8,7 +8,7 @@ use native.Mathlib.Omega.{arith}
 use lib.ListN.{length}
 use lib.Dec.{eqb, ltb}
 use borrow.Author.Tests.{eqb-true, eqb-false, ltb-true, ltb-false}
-use Rattle.notation.specs.Notation.{pick, with, if◌then◌else◌, if◌equals◌then◌else◌, if◌below◌then◌else◌}
+use Rattle.notation.specs.Notation.{pick, with, when◌then◌else◌, if◌equals◌then◌else◌, if◌below◌then◌else◌}
 use Rattle.semantics.specs.declared.Term.{Term}
 use Rattle.semantics.specs.Numbers.{truth_term, false_number, true_number, term_limit, table_full}
 use Rattle.semantics.specs.Terms.{term, find_of, laid_out, well_formed}
@@ -125,8 +125,8 @@ module _ {K : List Term → Type 0} {l n : ℕ} {N : ℕ → Type 0} where
 
   -- a step after a test, by what the test gave
   module _ {A : Type 0} {x y : Make A} {ts : List Term} {Q : List Term → A → Type 0} where
-    pub does_if : (b : Bool) → (b ≡ true → DoesKeeping K l n x ts Q N) → (b ≡ false → DoesKeeping K l n y ts Q N) → DoesKeeping K l n (if b then x else y) ts Q N
-    unfolding if◌then◌else◌
+    pub does_if : (b : Bool) → (b ≡ true → DoesKeeping K l n x ts Q N) → (b ≡ false → DoesKeeping K l n y ts Q N) → DoesKeeping K l n (when b then x else y) ts Q N
+    unfolding when◌then◌else◌
     does_if true f g = f refl
     does_if false f g = g refl
 

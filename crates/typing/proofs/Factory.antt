@@ -5,7 +5,7 @@ use mathlib.Core.List.{List}
 use Prim.Native.Nat.{ℕ, ◌<◌}
 use lib.Dec.{eqb, ltb}
 use borrow.Author.Tests.{eqb-true, eqb-false, ne_eqb, lt-ltb}
-use Rattle.notation.specs.Notation.{pick, if◌then◌else◌, if◌equals◌then◌else◌, if◌below◌then◌else◌}
+use Rattle.notation.specs.Notation.{pick, when◌then◌else◌, if◌equals◌then◌else◌, if◌below◌then◌else◌}
 use Rattle.operators.specs.Operators.{operands_of, gives_truth_of, row_of}
 use Rattle.semantics.specs.declared.Term.{Term}
 use Rattle.semantics.specs.Numbers.{truth_term, word_term, operator_term, choice_term, procedure_term, binding_term, not_code, is_word_code, is_procedure_code, negation_code, conjunction_code, disjunction_code, truth_code, false_number, true_number, record_limit, no_binding}
@@ -105,12 +105,12 @@ laid_operator {n} {ts} {op} {a} {b} h = record { is = rw (ne_eqb _ _ h.some, lt-
 
 -- operators that give truths
 pub formula : (op a b : ℕ) → gives_truth_of op ≡ true → sort_of (term operator_term op a b 0) ≡ truth_term
-unfolding sort_of if◌equals◌then◌else◌ if◌then◌else◌
+unfolding sort_of if◌equals◌then◌else◌ when◌then◌else◌
 formula op a b e = rw e
 
 -- any operator gives a value
 pub operator_value : {ts : List Term} {x op a b : ℕ} → There (term operator_term op a b 0) ts x → Value ts x
-unfolding sort_of if◌equals◌then◌else◌ if◌then◌else◌
+unfolding sort_of if◌equals◌then◌else◌ when◌then◌else◌
 operator_value {ts} {x} {op} h = go (gives_truth_of op) refl
   where
     go : (c : Bool) → gives_truth_of op ≡ c → Value ts x

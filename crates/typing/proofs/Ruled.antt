@@ -8,7 +8,7 @@ use native.Mathlib.Omega.{arith}
 use lib.ListN.{length, get_or-eq_default}
 use lib.Dec.{eqb, ltb}
 use borrow.Author.Tests.{eqb-true, eqb-false, ltb-true, ltb-false, ne_eqb, le-ltb}
-use Rattle.notation.specs.Notation.{pick, with, if◌then◌else◌, if◌equals◌then◌else◌, if◌below◌then◌else◌, unless◌then◌else◌, up_to}
+use Rattle.notation.specs.Notation.{pick, with, when◌then◌else◌, if◌equals◌then◌else◌, if◌below◌then◌else◌, unless◌then◌else◌, up_to}
 use Rattle.notation.proofs.Every.{up_all}
 use Rattle.operators.specs.Operators.{row_of, operands_of}
 use Rattle.semantics.specs.declared.Record.{Record}
@@ -33,7 +33,7 @@ pub record Tested (s : List ℕ) : Type 0 where
 
 module _ (s : List ℕ) (h : rule_refusal_of s ≡ 0) where
   pub tested : Tested s
-  unfolding rule_refusal_of if◌then◌else◌ tests_of unless◌then◌else◌ bad_rule_size
+  unfolding rule_refusal_of when◌then◌else◌ tests_of unless◌then◌else◌ bad_rule_size
   tested =
       go (eqb (length s) 0) (ltb rule_bytes (length s)) (eqb (length s % 8) 0) (up_to (records_in s) (λ i. shaped_of (record_at s i))) (up_to (records_in s) (linked_of s (records_in s)))
       (up_to (records_in s) (scoped_of s)) refl refl refl refl refl refl h

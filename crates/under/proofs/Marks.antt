@@ -8,7 +8,7 @@ use lib.Dec.{eqb, ltb}
 use lib.ListN.{length, get_or, set, replicate, length-set, length-replicate}
 use lib.Seq.{get_or-set_same, get_or-set_other}
 use borrow.Author.Tests.{eqb-true, eqb-false, le-ltb, lt-ltb}
-use Rattle.notation.specs.Notation.{pick, if◌then◌else◌}
+use Rattle.notation.specs.Notation.{pick, when◌then◌else◌}
 use Rattle.semantics.specs.declared.Term.{Term}
 use Rattle.semantics.specs.declared.Result.{Result}
 use Rattle.semantics.specs.Terms.{term_at, terms_in}
@@ -76,7 +76,7 @@ pub record Onward (s : List ℕ) (count : ℕ) (w : List ℕ) (i : ℕ) (m : Lis
   pub to : (k : ℕ) → down_from (terms_in s i) (mark_in m) k ≡ down_from (terms_in s count) (mark_in w) k
 
 down_next : (s : List ℕ) (i : ℕ) (m : ℕ → Bool) (k : ℕ) → down_from (terms_in s (suc i)) m k ≡ down_from (terms_in s i) (pick (m i) (with_lower i (term_at s i) m) m) k
-unfolding down_from terms_in if◌then◌else◌
+unfolding down_from terms_in when◌then◌else◌
 down_next s i m k = ap (λ n. down_from (terms_in s i) (pick (m n) (with_lower n (term_at s i) m) m) k) (terms_length s i)
 
 module _ {s : List ℕ} {count : ℕ} {w : List ℕ} where

@@ -9,7 +9,7 @@ use lib.Dec.{eqb, leb}
 use lib.ListN.{length, get_or, set, replicate, length-set, length-replicate}
 use lib.Seq.{get_or-set_same, get_or-set_other}
 use borrow.Author.Tests.{eqb-true, eqb-false, leb-true, leb-false}
-use Rattle.notation.specs.Notation.{pick, with, if◌then◌else◌, if◌equals◌then◌else◌}
+use Rattle.notation.specs.Notation.{pick, with, when◌then◌else◌, if◌equals◌then◌else◌}
 use Rattle.words.specs.Words.{word_limit, last_word}
 use Rattle.semantics.specs.declared.Term.{Term}
 use Rattle.semantics.specs.declared.Goal.{Goal}
@@ -44,19 +44,19 @@ use Rattle.witness.proofs.Halves.{ready_lower}
 -- ---- the least numbers and the greatest
 module _ (xs : List Input) (ns : List ℕ) {spanned : Bool} where
   pub least_given : spanned ≡ true → {r : List ℕ} → r ≡ ends_of 0 xs ns → r ≡ least_of spanned xs ns
-  unfolding least_of if◌then◌else◌
+  unfolding least_of when◌then◌else◌
   least_given h e = rw h e
 
   pub least_none : spanned ≡ false → {r : List ℕ} → r ≡ ends_of 0 xs (replicate input_count 0) → r ≡ least_of spanned xs ns
-  unfolding least_of if◌then◌else◌
+  unfolding least_of when◌then◌else◌
   least_none h e = rw h e
 
   pub greatest_given : spanned ≡ true → {r : List ℕ} → r ≡ ends_of 1 xs ns → r ≡ greatest_of spanned xs ns
-  unfolding greatest_of if◌then◌else◌
+  unfolding greatest_of when◌then◌else◌
   greatest_given h e = rw h e
 
   pub greatest_none : spanned ≡ false → {r : List ℕ} → r ≡ ends_of 1 xs (replicate input_count last_word) → r ≡ greatest_of spanned xs ns
-  unfolding greatest_of if◌then◌else◌
+  unfolding greatest_of when◌then◌else◌
   greatest_none h e = rw h e
 
 -- ---- each low is at most its high
@@ -113,7 +113,7 @@ module _ (x : Session) (s : List ℕ) (r : Result) (spanned : Bool) (lows highs 
     (bytes : Bytes s) (words : Words highs) (fits : fits_of x s ≡ true) (taken : spans_fit spanned x.inputs lows highs ≡ true) {ls hs : List ℕ}
     (el : ls ≡ least_of spanned x.inputs lows) (eh : hs ≡ greatest_of spanned x.inputs highs) where
   ordered : Ordered ls hs
-  unfolding least_of greatest_of spans_fit if◌then◌else◌
+  unfolding least_of greatest_of spans_fit when◌then◌else◌
   ordered = rw (el, eh) (go spanned taken)
     where
       go : (b : Bool) → pick b (spans_taken x.inputs lows highs) true ≡ true → Ordered (ends_of 0 x.inputs (pick b lows (replicate input_count 0))) (ends_of 1 x.inputs (pick b highs (replicate input_count last_word)))
@@ -124,14 +124,14 @@ module _ (x : Session) (s : List ℕ) (r : Result) (spanned : Bool) (lows highs 
 
   -- the highs of free truths are truths, and all are words
   truth_high : (t : Term) → Free x.inputs t → t.kind ≡ free_truth_term → get_or hs t.a 0 < 2
-  unfolding greatest_of end_of if◌then◌else◌ if◌equals◌then◌else◌
+  unfolding greatest_of end_of when◌then◌else◌ if◌equals◌then◌else◌
   truth_high t f k =
       let z = f.truth k in
       let g = given spanned highs last_word nh in
       rw (eh, ends_at 1 x.inputs (pick spanned highs (replicate input_count last_word)) t.a no_input z.0 (omega (arith, z.0, n, g)), z.1) (omega arith)
 
   ready : Ready s x.count hs
-  unfolding greatest_of if◌then◌else◌
+  unfolding greatest_of when◌then◌else◌
   ready =
       let f = fitting x s n fits in
       record {
@@ -197,7 +197,7 @@ module _ (s lows highs m : List ℕ) where
     module _ {t : Term} (et : t ≡ term_at s n) {a : ℕ} (ea : a ≡ named_input (get_or m n 0) t) where
       -- of a marked free input's term a is the input, else 16
       named : (a ≡ t.a) ⊎ ((a ≡ input_count) × (mark_in m n ≡ true → is_free (term_at s n) ≡ true → ⊥))
-      unfolding named_input with if◌then◌else◌
+      unfolding named_input with when◌then◌else◌
       named = go (mark_in m n) (is_free t) refl refl
         where
           go : (b c : Bool) → mark_in m n ≡ b → is_free t ≡ c → (a ≡ t.a) ⊎ ((a ≡ input_count) × (mark_in m n ≡ true → is_free (term_at s n) ≡ true → ⊥))

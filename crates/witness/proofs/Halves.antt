@@ -9,7 +9,7 @@ use lib.Dec.{eqb}
 use lib.ListN.{length, get_or, set}
 use lib.Seq.{get_or-set_same, get_or-set_other}
 use borrow.Author.Tests.{eqb-true, eqb-false}
-use Rattle.notation.specs.Notation.{pick, if◌then◌else◌}
+use Rattle.notation.specs.Notation.{pick, when◌then◌else◌}
 use Rattle.words.specs.Words.{word_limit}
 use Rattle.semantics.specs.declared.Term.{Term}
 use Rattle.semantics.specs.declared.Goal.{Goal}
@@ -165,7 +165,7 @@ module _ (g : Goal) (r : Result) (ts : List Term) (ns : List ℕ) {o : Outcome} 
 module _ (s : List ℕ) (count : ℕ) (r : Result) (g : Goal) (ls hs : List ℕ) where
   -- a box of one reading
   pub single_found : length ls ≡ input_count → length hs ≡ input_count → {i : ℕ} → FirstOpen ls hs i → i ≡ input_count → {h : Hit} → h ≡ single_hit (reached_at g r (terms_in s count) ls) ls → Searched s count r g ls hs h
-  unfolding first_reached if◌then◌else◌
+  unfolding first_reached when◌then◌else◌
   single_found nl nh f e q =
       rw (first_nested (reached_at g r (terms_in s count)) ls hs, box_single (reached_at g r (terms_in s count)) ls hs (omega arith) (λ j k. f.single j (omega arith)))
       (q ∙ go (reached_at g r (terms_in s count) ls))

@@ -1,6 +1,6 @@
 -- What the search for a witness asks and promises. Assumes nothing.
 use Rattle.std.specs.Prelude.{◌≡◌, ◌⊎◌, Bool, true, false, List, [], ◌∷◌, ℕ, ◌+◌, ◌-◌, ◌/◌, ◌<◌, ◌≤◌, eqb, leb, length, get_or}
-use Rattle.notation.specs.Notation.{with, if◌then◌else◌, if◌equals◌then◌else◌}
+use Rattle.notation.specs.Notation.{with, when◌then◌else◌, if◌equals◌then◌else◌}
 use Rattle.semantics.specs.declared.Term.{Term}
 use Rattle.semantics.specs.declared.Goal.{Goal}
 use Rattle.semantics.specs.declared.Hit.{Hit}
@@ -47,7 +47,7 @@ is_free t = if t.kind equals free_truth_term then true else eqb t.kind free_word
 
 -- the input that a term names, where its place n is marked and it is a free input's; else 16
 unfoldable pub named_input : ℕ → Term → ℕ
-named_input n t = with (leb mark_place n) λ b. if b then (with (is_free t) λ f. if f then t.a else input_count) else input_count
+named_input n t = with (leb mark_place n) λ b. when b then (with (is_free t) λ f. when f then t.a else input_count) else input_count
 
 -- ts has the high of input i, or its low where none of the marked ones of the first n terms of the table s names it
 pub record Stood (s lows highs m : List ℕ) (n : ℕ) (ts : List ℕ) : Type 0 where

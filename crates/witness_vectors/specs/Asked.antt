@@ -1,6 +1,6 @@
 -- A session's step that asks for a witness, and its answer as numbers. Assumes nothing.
 use Rattle.std.specs.Prelude.{ℕ, Bool, true, false, List, [], ◌∷◌, replicate}
-use Rattle.notation.specs.Notation.{if◌then◌else◌, if◌equals◌then◌else◌}
+use Rattle.notation.specs.Notation.{when◌then◌else◌, if◌equals◌then◌else◌}
 use Rattle.semantics.specs.declared.Goal.{Goal}
 use Rattle.semantics.specs.declared.Witness.{Witness}
 use Rattle.semantics.specs.History.{History}
@@ -9,7 +9,7 @@ use Rattle.vectors.specs.Script.{Step, ask}
 
 -- 0, 1 and the sixteen numbers of the reading; 0 and 0 where there is none; or a refusal
 unfoldable pub witness_numbers : Witness → List ℕ
-witness_numbers w = if w.refusal equals 0 then 0 ∷ (if w.hit.found then 1 ∷ w.hit.numbers else 0 ∷ []) else w.refusal ∷ []
+witness_numbers w = if w.refusal equals 0 then 0 ∷ (when w.hit.found then 1 ∷ w.hit.numbers else 0 ∷ []) else w.refusal ∷ []
 
 -- of the last accepted result, with a work list of l places; the lows and highs count only where spans are given
 unfoldable pub witnessed : ℕ → Goal → Bool → List ℕ → List ℕ → History → List ℕ

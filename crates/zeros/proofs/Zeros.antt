@@ -11,13 +11,13 @@ use lib.Seq.{drop-cons, drop-drop}
 use lib.Bits.{bit_or, or_add_and, and_le_l, and_le_r}
 use lib.Dec.{eqb}
 use borrow.Author.Tests.{eqb-true, eqb-false, eq-eqb, ne_eqb}
-use Rattle.notation.specs.Notation.{pick, if◌then◌else◌, every}
+use Rattle.notation.specs.Notation.{pick, when◌then◌else◌, every}
 use Rattle.semantics.specs.Fits.{is_zero}
 use Rattle.zeros.specs.Zeros.{four_zero}
 
 -- the next byte, and those after it
 left : (s : List ℕ) (i : ℕ) → i < length s → every is_zero (drop i s) ≡ pick (eqb (get_or s i 0) 0) (every is_zero (drop (i + 1) s)) false
-unfolding every is_zero if◌then◌else◌
+unfolding every is_zero when◌then◌else◌
 left s i h = rw (add-one, drop-cons s i 0 h)
 
 -- ---- byte after byte
@@ -84,7 +84,7 @@ module _ (x y z w : List ℕ) (ly : length y ≡ length x) (lz : length z ≡ le
 -- ---- a tail in parts
 
 split : (k : ℕ) (l : List ℕ) → every is_zero l ≡ (every is_zero (take k l) && every is_zero (drop k l))
-unfolding every if◌then◌else◌
+unfolding every when◌then◌else◌
 split zero l = refl
 split (suc k) [] = refl
 split (suc k) (x ∷ l) = go (is_zero x) (split k l)

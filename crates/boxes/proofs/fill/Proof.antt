@@ -33,16 +33,16 @@ loop_again c =
     let enough-tops = start.requires.1.0 in
     let said = c.is_marked.ensures in
     elim c.if-is_marked.branch [
-      then-is_marked w ↦ (
-      omega (arith, tested),
-      rw w.tops-is (search (length-set, tops-long)),
-      rw (w.work-is, w.tops-is) (ranged_next start.args.table.now start.args.lows start.args.highs start.args.count start.requires.1.1 at-loop.loop-i.i here tested (omega (arith, tested, enough, long)) said w.if-is_marked.true (omega (arith, tested, enough, long)) (omega (arith, tested, enough-tops, tops-long)) w.term_at-t.ensures (simp unary_clauses at w.range_of-r.ensures) w.keep-v.ensures.0 w.keep-v.ensures.1),
-    )
-    | else-is_marked w ↦ (
-      omega (arith, tested),
-      rw w.tops-is tops-long,
-      rw (w.work-is, w.tops-is) (ranged_over start.args.table.now start.args.lows start.args.highs start.args.count start.requires.1.1 at-loop.loop-i.i here tested (omega (arith, tested, enough, long)) said w.if-is_marked.false),
-    )
+      | then-is_marked w ↦ (
+        omega (arith, tested),
+        rw w.tops-is (search (length-set, tops-long)),
+        rw (w.work-is, w.tops-is) (ranged_next start.args.table.now start.args.lows start.args.highs start.args.count start.requires.1.1 at-loop.loop-i.i here tested (omega (arith, tested, enough, long)) said w.if-is_marked.true (omega (arith, tested, enough, long)) (omega (arith, tested, enough-tops, tops-long)) w.term_at-t.ensures (simp unary_clauses at w.range_of-r.ensures) w.keep-v.ensures.0 w.keep-v.ensures.1),
+      )
+      | else-is_marked w ↦ (
+        omega (arith, tested),
+        rw w.tops-is tops-long,
+        rw (w.work-is, w.tops-is) (ranged_over start.args.table.now start.args.lows start.args.highs start.args.count start.requires.1.1 at-loop.loop-i.i here tested (omega (arith, tested, enough, long)) said w.if-is_marked.false),
+      )
     ]
 
 pub fill_spec : {M : Type 1} → statement M

@@ -6,10 +6,10 @@ use Rattle.print.proofs.put_evaluation.Statement.{statement}
 use Rattle.print.proofs.put_evaluation.Tie as tie
 
 put_answer_requires : tie.Need-put_answer-requires
-put_answer_requires c κs = evaluation_told _ _ _ _ c.before.before.before.before.before.before.before.before.before.requires c.before.before.before.before.before.enter_once.ensures
+put_answer_requires c κs = evaluation_told _ _ _ _ c.requires c.enter_once-e.ensures
 
 returns : tie.Need-returns
-returns c = evaluated_lines _ _ _ c.before.before.before.before.before.before.enter_once.ensures c.put_answer.ensures
+returns c = evaluated_lines _ _ _ c.enter_once-e.ensures c.put_answer.ensures
 
 pub put_evaluation_spec : {M : Type 1} → statement M
 put_evaluation_spec =

@@ -6,7 +6,7 @@ use Rattle.witness.proofs.highs_below.Statement.{statement}
 use Rattle.witness.proofs.highs_below.Tie as tie
 
 returns : tie.Need-returns
-returns c = ap (set c.before.args.t2 c.before.args.i) c.middle.ensures.0
+returns c = ap (set c.args.highs c.args.i) c.middle-m.ensures.0
 
 pub highs_below_spec : {M : Type 1} → statement M
 highs_below_spec =

@@ -3,8 +3,8 @@ use borrow.Author.Rules.{rules}
 use Rattle.witness.proofs.is_the_word.Statement.{statement}
 use Rattle.witness.proofs.is_the_word.Tie as tie
 
-returns_2 : tie.Need-returns-2
-returns_2 c = rw c.before.o.given.1
+returns_2 : tie.Need-returns-in-Word
+returns_2 c = rw c.in-Word.is
 
 pub is_the_word_spec : {M : Type 1} → statement M
 is_the_word_spec =

@@ -8,10 +8,10 @@ use Rattle.witness.proofs.lows_above.Statement.{statement}
 use Rattle.witness.proofs.lows_above.Tie as tie
 
 add_above : tie.Need-overflow_add-above
-add_above c = record { fits = omega (arith, c.middle.ensures.1) }
+add_above c = record { fits = omega (arith, c.middle-m.ensures.1) }
 
 returns : tie.Need-returns
-returns c = ap (λ m. set c.before.args.t1 c.before.args.i (m + 1)) c.middle.ensures.0
+returns c = ap (λ m. set c.args.lows c.args.i (m + 1)) c.middle-m.ensures.0
 
 pub lows_above_spec : {M : Type 1} → statement M
 lows_above_spec =

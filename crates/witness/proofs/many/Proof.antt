@@ -5,17 +5,17 @@ use Rattle.witness.proofs.Halves.{product_small}
 use Rattle.witness.proofs.many.Statement.{statement}
 use Rattle.witness.proofs.many.Tie as tie
 
-abbrev invariant-loop : tie.invariant-loop
+abbrev invariant-loop : tie.invariant-loop-i
 invariant-loop lows highs n₀ i₀ n i = (i ≤ 16) × (n < 32)
 
-abbrev decreases-loop : tie.decreases-loop
+abbrev decreases-loop : tie.decreases-loop-i
 decreases-loop lows highs n₀ i₀ n i = 16 - i
 
-size_requires : tie.Need-size-requires invariant-loop decreases-loop
-size_requires c κs = c.before.before.requires.at c.before.loop.i
+size_requires : tie.Need-size-n-requires invariant-loop decreases-loop
+size_requires c κs = c.requires.at c.loop-i.i
 
 mul_n : tie.Need-overflow_mul-n invariant-loop decreases-loop
-mul_n c = record { fits = product_small c.before.before.loop.n c.size.result c.before.before.loop.invariant.1 c.size.ensures }
+mul_n c = record { fits = product_small c.loop-i.n c.size-n.result c.loop-i.invariant.1 c.size-n.ensures }
 
 pub many_spec : {M : Type 1} → statement M
 many_spec =

@@ -5,13 +5,13 @@ use Rattle.witness.proofs.Halves.{not-true}
 use Rattle.witness.proofs.passed_over.Statement.{statement}
 use Rattle.witness.proofs.passed_over.Tie as tie
 
-returns : tie.Need-returns
+returns : tie.Need-returns-then-many
 returns c =
-    let asked = c.before.before.before.before.possible in
-    (λ e. asked.ensures.0 e, asked.ensures.1)
+    let asked = c.possible in
+    (λ e. asked.ensures.0 (not-true _ e), asked.ensures.1)
 
-returns_2 : tie.Need-returns-2
-returns_2 c = (λ e. absurd (false≢true e), c.before.before.before.before.before.requires.0.under)
+returns_2 : tie.Need-returns-else-many
+returns_2 c = (λ e. absurd (false≢true e), c.requires.0.under)
 
 pub passed_over_spec : {M : Type 1} → statement M
 passed_over_spec = tie.close (tie.spec (λ c κs. search rules) (λ c κs. search rules) (λ c. search rules) (λ c. search rules) returns returns_2)

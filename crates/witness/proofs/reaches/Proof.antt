@@ -3,8 +3,8 @@ use borrow.Author.Rules.{rules}
 use Rattle.witness.proofs.reaches.Statement.{statement}
 use Rattle.witness.proofs.reaches.Tie as tie
 
-returns_3 : tie.Need-returns-3
-returns_3 c = rw c.before.before.goal.given.1 c.is_the_word.ensures
+returns_3 : tie.Need-returns-in-Gives
+returns_3 c = rw c.in-Gives.is c.is_the_word.ensures
 
 pub reaches_spec : {M : Type 1} → statement M
 reaches_spec =

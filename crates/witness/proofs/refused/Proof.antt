@@ -6,7 +6,7 @@ use Rattle.witness.proofs.refused.Statement.{statement}
 use Rattle.witness.proofs.refused.Tie as tie
 
 returns : tie.Need-returns
-returns c = ap (λ (h : Hit). record { refusal = c.before.args.refusal; hit = h }) c.no_hit.ensures
+returns c = ap (λ (h : Hit). record { refusal = c.args.refusal; hit = h }) c.no_hit-hit.ensures
 
 pub refused_spec : {M : Type 1} → statement M
 refused_spec = tie.close (tie.spec (λ c κs. search rules) returns)
