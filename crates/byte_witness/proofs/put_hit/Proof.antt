@@ -5,7 +5,7 @@ use Rattle.byte_witness.proofs.put_hit.Statement.{statement}
 use Rattle.byte_witness.proofs.put_hit.Tie as tie
 
 returns : tie.Need-returns
-returns c = hit_put c.before.before.before.before.before.before.before.before.before.before.before.args.h c.before.before.before.before.before.before.before.bit.ensures c.before.before.before.before.before.before.before.before.before.before.before.args.place.now c.before.before.before.before.before.before.put_word.ensures c.before.before.put_numbers.ensures
+returns c = hit_put c.args.h c.bit.ensures c.args.place.now c.put_word.ensures c.put_numbers.ensures
 
 pub put_hit_spec : {M : Type 1} → statement M
 put_hit_spec = tie.close (tie.spec (λ c κs. search rules) (λ c κs. search rules) (λ c κs. search rules) (λ c. search rules) returns)

@@ -11,19 +11,19 @@ use Rattle.byte_witness.proofs.Hits.{numbers_more, numbers_done}
 use Rattle.byte_witness.proofs.put_numbers.Statement.{statement}
 use Rattle.byte_witness.proofs.put_numbers.Tie as tie
 
-abbrev invariant-loop : tie.invariant-loop
+abbrev invariant-loop : tie.invariant-loop-i
 invariant-loop place₀ numbers i₀ place i = (i ≤ 16) × (length place ≡ length place₀) × (place ≡ sets place₀ word_bytes (words_of (take i numbers)))
 
-abbrev decreases-loop : tie.decreases-loop
+abbrev decreases-loop : tie.decreases-loop-i
 decreases-loop place₀ numbers i₀ place i = 16 - i
 
-loop_again : tie.Need-loop-preserved invariant-loop decreases-loop
-loop_again c = (search rules, search rules, numbers_more _ _ _ (omega arith) c.before.before.before.before.before.loop.invariant.2 c.before.before.put_word.ensures)
+loop_again : tie.Need-loop-i-preserved invariant-loop decreases-loop
+loop_again c = (search rules, search rules, numbers_more _ _ _ (omega arith) c.loop-i.invariant.2 c.put_word.ensures)
 
 returns : tie.Need-returns invariant-loop decreases-loop
 returns c =
-    let start = c.before.before.before in
-    numbers_done start.args.place.now start.args.t2 c.before.loop.i (omega (arith, start.well_formed.1.0.1.0.1, c.loop-test.false)) c.before.loop.invariant.2
+    let start = c in
+    numbers_done start.args.place.now start.args.numbers c.loop-i.i (omega (arith, start.well_formed.1.0.1.0.1, c.loop-i-test.false)) c.loop-i.invariant.2
 
 pub put_numbers_spec : {M : Type 1} → statement M
 put_numbers_spec =
