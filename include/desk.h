@@ -251,7 +251,7 @@ uint8_t desk_run(const uint8_t *inputs, size_t inputs_len,
  * What a gin may be told: take a session that was opened by desk_open and changed only by desk_evaluate, with the table that
  * these left. If the report of its T (two bytes at DESK_INPUTS + 4) can only be true, which is sort 1 and low 1, then no
  * reading within the spans errs: under no numbers within them does reading the last accepted result give an error, nor does
- * running the accepted rules in turn (theorem no-reading-errs). A report of T that may be false promises nothing: there need
+ * running the accepted rules in turn (theorem no_reading_errs). A report of T that may be false promises nothing: there need
  * not be a reading that errs. */
 uint8_t desk_spans(const uint8_t *session, size_t session_len,
                    const uint8_t *table, size_t table_len,
@@ -262,14 +262,14 @@ uint8_t desk_spans(const uint8_t *session, size_t session_len,
 /* Writes clauses for a solver: DIMACS CNF text, as docs/CLAUSES.md has it, of a session's table, a result and a goal. They can
  * be satisfied exactly where some sixteen numbers, none of which 13 refuses, make reading the result give the goal, and the
  * input variables of whatever satisfies them are such numbers: the number for a free input is the word of bits 18n + 3 to
- * 18n + 18, lowest first, where term n is that input's (theorems clauses-exact and model-is-reading). What the grammar of
- * DIMACS reads from the text is these clauses (text-is-clauses). The bytes past the text are left as they were. The length is
+ * 18n + 18, lowest first, where term n is that input's (theorems clauses_exact and model_is_reading). What the grammar of
+ * DIMACS reads from the text is these clauses (text_is_clauses). The bytes past the text are left as they were. The length is
  * written where the answer is 0 or 18, so that a call with an empty buffer tells how much to lend. Answers 255, 3, 14 or 18, or
  * 0.
  *
  * What a gin may be told: take a session that was opened by desk_open and changed only by desk_evaluate, with the table that
  * these left, and the result of its last accepted rule. If the clauses for DESK_ERROR can't be satisfied, no reading of that
- * result errs, and no run of the accepted rules does (theorem unsatisfied-never-errs). */
+ * result errs, and no run of the accepted rules does (theorem unsatisfied_never_errs). */
 uint8_t desk_clauses(const uint8_t *session, size_t session_len,
                      const uint8_t *table, size_t table_len,
                      const uint8_t *result, size_t result_len,
@@ -282,15 +282,15 @@ uint8_t desk_clauses(const uint8_t *session, size_t session_len,
  * spans as desk_spans has them, and then only numbers within them count; both of length 0 are no spans. At most 24 bits are free
  * in all, a truth being one and a word sixteen, with spans or without. The work list is as for desk_read. Reading the result
  * under the numbers that are found gives the goal, under none before them does it, and where none are found, under none at all
- * (theorems witness-reaches, witness-first and none-means-none). Answers 255, 3, 14, 17, 19 or 15, or 0.
+ * (theorems witness_reaches, witness_first and none_means_none). Answers 255, 3, 14, 17, 19 or 15, or 0.
  *
  * The search halves boxes of numbers and passes over those in which the ranges of the terms show that nothing reaches the goal.
  * Where the ranges never show it, the result is read under up to 16,777,216 numbers; docs/PERFORMANCE.md has times.
  *
  * What a gin may be told: take a session that was opened by desk_open and changed only by desk_evaluate, with the table that
  * these left, and the result of its last accepted rule. If none are found for DESK_ERROR, no run of the accepted rules under
- * numbers within the spans errs (theorem none-never-errs); under numbers that are found the run comes to the goal (theorem
- * witness-runs). */
+ * numbers within the spans errs (theorem none_never_errs); under numbers that are found the run comes to the goal (theorem
+ * witness_runs). */
 uint8_t desk_witness(const uint8_t *session, size_t session_len,
                      const uint8_t *table, size_t table_len,
                      const uint8_t *result, size_t result_len,

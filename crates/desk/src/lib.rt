@@ -108,7 +108,7 @@ pub fn desk_run(
 
 // Reports on each term, with the free words within their spans. Where the session was kept from its opening and the report
 // of its T can only be true (sort 1, low 1), no head that stays within its span brings about an error: neither does
-// reading the last accepted result under such numbers, nor running the accepted rules (theorem no-reading-errs).
+// reading the last accepted result under such numbers, nor running the accepted rules (theorem no_reading_errs).
 pub fn desk_spans(
     session: &[u8],
     table: &[u8],
@@ -136,9 +136,9 @@ pub fn desk_read_all(
 }
 
 // Writes the clauses of a table and a goal as DIMACS CNF text. They can be satisfied exactly where some sixteen numbers make
-// reading the result reach the goal, and the input variables of what satisfies them are such numbers (theorems clauses-exact,
-// model-is-reading). Where the session was kept from its opening and the clauses for an error of its last accepted result can't
-// be satisfied, no run of the accepted rules errs (theorem unsatisfied-never-errs).
+// reading the result reach the goal, and the input variables of what satisfies them are such numbers (theorems clauses_exact,
+// model_is_reading). Where the session was kept from its opening and the clauses for an error of its last accepted result can't
+// be satisfied, no run of the accepted rules errs (theorem unsatisfied_never_errs).
 pub fn desk_clauses(
     session: &[u8],
     table: &[u8],

@@ -181,7 +181,7 @@ impl Desk {
 
     /// Whether the gin may be told that no reading within these spans errs: that under no numbers within them does reading
     /// the last accepted answer give an error, nor does running the accepted rules in turn. A desk keeps its session from
-    /// the opening on, so that this follows where the report of T can only be true (theorem no-reading-errs in
+    /// the opening on, so that this follows where the report of T can only be true (theorem no_reading_errs in
     /// `include/desk.h`). Where it gives false, a reading may err, but none need to.
     pub fn never_errs(&self, lows: &[Word; 16], highs: &[Word; 16]) -> Result<bool, Refusal> {
         let reports = self.spans(lows, highs)?;
@@ -195,7 +195,7 @@ impl Desk {
 
     /// Clauses that can be satisfied exactly where some sixteen numbers make reading an answer reach the goal, as DIMACS CNF
     /// text for a solver. The numbers that a solver's model stands for are `numbers_of`. Where the clauses for `Goal::Errs` of
-    /// the last accepted answer can't be satisfied, no run of the accepted rules errs (theorem unsatisfied-never-errs in
+    /// the last accepted answer can't be satisfied, no run of the accepted rules errs (theorem unsatisfied_never_errs in
     /// `include/desk.h`).
     pub fn clauses(&self, answer: Answer, goal: Goal) -> Result<String, Refusal> {
         let (result, goal) = (result_bytes(answer), goal_bytes(goal));
@@ -238,7 +238,7 @@ impl Desk {
     /// The first sixteen numbers under which reading an answer reaches the goal, comparing inputs from 0 up as plain numbers, or
     /// nothing where no numbers do; a constant input has the number 0. With more than 24 free bits (a truth is one, a word
     /// sixteen) it is refused by 19. Where there is nothing for `Goal::Errs` of the last accepted answer, no run of the accepted
-    /// rules errs (theorem none-never-errs in `include/desk.h`).
+    /// rules errs (theorem none_never_errs in `include/desk.h`).
     pub fn witness(&self, answer: Answer, goal: Goal) -> Result<Option<[Word; SAMPLE]>, Refusal> {
         self.first(answer, goal, &[], &[])
     }

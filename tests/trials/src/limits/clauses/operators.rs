@@ -128,8 +128,8 @@ fn both(a: usize, b: usize, first_helper: i64) -> Vec<Clause> {
     [gate, and2(first_helper + 1, first_helper, -wire(b, 1))].concat()
 }
 
-/// "for each bit i: own i+2 = and3(both, x i, y i)", andOr and andXor likewise; "equal: e0 = andXor(both, x0, -y0), e i =
-/// andXor(e i-1, x i, -y i); own2 = copy(e15)"
+/// "for each bit i: own i+2 = and3(both, x i, y i)", and_or and and_xor likewise; "equal: e0 = and_xor(both, x0, -y0), e i =
+/// and_xor(e i-1, x i, -y i); own2 = copy(e15)"
 fn bit_by_bit(tally: &mut Tally) {
     let first_helper = wire(OWN + 1, 0);
     let is_both = first_helper + 1;
