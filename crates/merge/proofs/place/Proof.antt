@@ -5,11 +5,5 @@ use Rattle.merge.proofs.Passes.{place_up, place_down}
 use Rattle.merge.proofs.place.Statement.{statement}
 use Rattle.merge.proofs.place.Tie as tie
 
-returns : tie.Need-returns-then-pass-ne-VALUE_PASS
-returns c = (search place_up, omega arith)
-
-returns_2 : tie.Need-returns
-returns_2 c = (search place_down, omega arith)
-
 pub place_spec : {M : Type 1} → statement M
-place_spec = tie.close (tie.spec returns (λ c. search rules) (λ c. search rules) returns_2)
+place_spec = tie.close (tie.spec (λ c. (search place_up, omega arith)) (λ c. search rules) (λ c. search rules) (λ c. (search place_down, omega arith)))

@@ -5,8 +5,5 @@ use Rattle.notation.proofs.Lists.{past_end}
 use Rattle.reading_tests.proofs.number.Statement.{statement}
 use Rattle.reading_tests.proofs.number.Tie as tie
 
-returns_2 : tie.Need-returns-else-i-lt-INPUT_COUNT
-returns_2 c = past_end c.args.numbers c.args.i (omega arith)
-
 pub number_spec : {M : Type 1} → statement M
-number_spec = tie.close (tie.spec (λ c. search rules) (λ c. search rules) (λ c. search rules) returns_2)
+number_spec = tie.close (tie.spec (λ c. search rules) (λ c. search rules) (λ c. search rules) (λ c. past_end c.args.numbers c.args.i (omega arith)))

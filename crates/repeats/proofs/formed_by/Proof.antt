@@ -22,20 +22,17 @@ decreases-loop table n accepted first₀ second₀ bits i₀ first second i = n 
 loop_holds : tie.Need-loop-i-init invariant-loop decreases-loop
 loop_holds c = ((search rules, formed_start _ _), ((search (rules, marked_start), search (rules, marked_start)), (search rules, search rules)))
 
-loop_again : tie.Need-loop-i-preserved invariant-loop decreases-loop
-loop_again c =
-    let p = c in
-    let t = p.term_at-t.ensures in
-    let l = p.loop-i.invariant in
-    let x = c.mark_of.ensures in
-    let y = c.mark_of-in-loop-i.ensures in
-    let w = formed_next _ _ _ l.0.1 t p.laid_out.ensures c.if-laid_out.true _ _ _ l.1.0.0 l.1.0.1 x y c.repeated.ensures c.if-repeated.false in
-    ((search rules, w), ((marked_next _ _ _ _ l.1.0.0 t x, marked_next _ _ _ _ l.1.0.1 t y), (search rules, search rules)))
-
 pub formed_by_spec : {M : Type 1} → statement M
 formed_by_spec =
     tie.close
     (tie.spec invariant-loop decreases-loop loop_holds (λ c κs. search rules) (λ c κs. search rules) (λ c. search rules) (λ c. search rules) (λ c. search formed_miss)
     (λ c κs. search rules) (λ c κs. search rules) (λ c. search mark_inside) (λ c. search mark_inside) (λ c κs. search rules) (λ c. search rules)
-    (λ c. search rules) (λ c. search formed_twice) (λ c. search mark_inside) (λ c. search mark_inside) (λ c. search rules) (λ c. search rules) loop_again
+    (λ c. search rules) (λ c. search formed_twice) (λ c. search mark_inside) (λ c. search mark_inside) (λ c. search rules) (λ c. search rules)
+    (λ c.
+    let t = c.term_at-t.ensures in
+    let l = c.loop-i.invariant in
+    let x = c.mark_of.ensures in
+    let y = c.mark_of-in-loop-i.ensures in
+    let w = formed_next _ _ _ l.0.1 t c.laid_out.ensures c.if-laid_out.true _ _ _ l.1.0.0 l.1.0.1 x y c.repeated.ensures c.if-repeated.false in
+    ((search rules, w), ((marked_next _ _ _ _ l.1.0.0 t x, marked_next _ _ _ _ l.1.0.1 t y), (search rules, search rules))))
     (λ c. search rules) (λ c. search rules) (λ c. search formed_end))

@@ -30,23 +30,18 @@ sample_at_requires c κs =
 read_sample_requires : tie.Need-read_sample-outcome-requires invariant-loop decreases-loop
 read_sample_requires c κs = c.loop-j.invariant.0.1
 
-loop_again : tie.Need-loop-j-preserved invariant-loop decreases-loop
-loop_again c =
-    let at-loop = c in
-    let tested = c.loop-j-test.true in
-    let read = c.read_sample-outcome.ensures in
-    let long = at-loop.loop-j.invariant.1.long in (
-      (search (rules, tested, long), read.1),
-      answers_next _ _ _ _ _ _ _ at-loop.loop-j.invariant.1 tested c.sample_at-sample.ensures read.0 c.answer_place-v.ensures,
-    )
-
-returns : tie.Need-returns invariant-loop decreases-loop
-returns c =
-    let long = c.loop-j.invariant.1.long in
-    answers_end _ _ _ _ _ _ _ _ _ c.loop-j.invariant.1 c.loop-j.invariant.0.0.0 (omega (arith, c.loop-j-test.false, long))
-
 pub read_each_spec : {M : Type 1} → statement M
 read_each_spec =
     tie.close
     (tie.spec invariant-loop decreases-loop loop_holds sample_at_requires read_sample_requires (λ c κs. search rules) (λ c. search rules) (λ c. search rules) (λ c. search rules) (λ c. search rules)
-    loop_again (λ c. search rules) (λ c. search rules) returns)
+    (λ c.
+    let tested = c.loop-j-test.true in
+    let read = c.read_sample-outcome.ensures in
+    let long = c.loop-j.invariant.1.long in (
+      (search (rules, tested, long), read.1),
+      answers_next _ _ _ _ _ _ _ c.loop-j.invariant.1 tested c.sample_at-sample.ensures read.0 c.answer_place-v.ensures,
+    ))
+    (λ c. search rules) (λ c. search rules)
+    (λ c.
+    let long = c.loop-j.invariant.1.long in
+    answers_end _ _ _ _ _ _ _ _ _ c.loop-j.invariant.1 c.loop-j.invariant.0.0.0 (omega (arith, c.loop-j-test.false, long))))

@@ -26,44 +26,35 @@ decreases-loop2 table count t last low i₀ i = count - i
 loop_holds : tie.Need-loop-i-init invariant-loop decreases-loop invariant-loop2 decreases-loop2
 loop_holds c = (search rules, search rules, rw c.floor-i.ensures)
 
--- two records that another low byte tells apart
-loop_again : tie.Need-loop-i-preserved-then-table-next invariant-loop decreases-loop invariant-loop2 decreases-loop2
-loop_again c =
-    let first = c in
-    let in-loop = first in
-    let low = in-loop.loop-i.invariant.0 in
-    let test = first.loop-i-test.true in (
-      search rules,
-      search rules,
-      find_past _ _ _ (in-loop.loop-i.i + 1)
-          (find_past _ _ _ in-loop.loop-i.i in-loop.loop-i.invariant.2 refl (omega arith) first.if-table-i.true (first.shared_slice_known-in-loop-i-1.given (8 * in-loop.loop-i.i + 2)).fits)
-          refl (omega arith) c.if-table-next.true (c.shared_slice_known-then-table-i-1.given (8 * (in-loop.loop-i.i + 1) + 2)).fits,
-    )
-
--- one record that is compared
-returns : tie.Need-returns-then-same invariant-loop decreases-loop invariant-loop2 decreases-loop2
-returns c =
-    let in-loop = c in
-    let low = in-loop.loop-i.invariant.0 in
-    let test = c.loop-i-test.true in
-    find_found _ _ _ in-loop.loop-i.i in-loop.loop-i.invariant.2 refl (omega arith) c.term_at.ensures c.same.ensures c.if-same.true
-
-loop_again_2 : tie.Need-loop-i-preserved invariant-loop decreases-loop invariant-loop2 decreases-loop2
-loop_again_2 c =
-    let in-loop = c in
-    let low = in-loop.loop-i.invariant.0 in
-    let test = c.loop-i-test.true in (
-      search rules,
-      search rules,
-      find_next _ _ _ in-loop.loop-i.i in-loop.loop-i.invariant.2 refl (omega arith) c.term_at.ensures c.same.ensures c.if-same.false,
-    )
-
 pub find_spec : {M : Type 1} → statement M
 find_spec =
     tie.close
     (tie.spec invariant-loop decreases-loop invariant-loop2 decreases-loop2 (λ c κs. search rules) (λ c κs. search rules) (λ c. search rules) (λ c κs. search rules) loop_holds
     (λ c. search rules) (λ c. search rules) (λ c. search rules) (λ c. search rules) (λ c. search rules) (λ c. search rules) (λ c. search rules)
-    (λ c. search rules) (λ c. search rules) loop_again
-    (λ c. search rules) (λ c κs. search rules) (λ c κs. search rules) returns (λ c. search rules) loop_again_2
+    (λ c. search rules) (λ c. search rules)
+    -- two records that another low byte tells apart
+    (λ c.
+    let low = c.loop-i.invariant.0 in
+    let test = c.loop-i-test.true in (
+      search rules,
+      search rules,
+      find_past _ _ _ (c.loop-i.i + 1)
+          (find_past _ _ _ c.loop-i.i c.loop-i.invariant.2 refl (omega arith) c.if-table-i.true (c.shared_slice_known-in-loop-i-1.given (8 * c.loop-i.i + 2)).fits)
+          refl (omega arith) c.if-table-next.true (c.shared_slice_known-then-table-i-1.given (8 * (c.loop-i.i + 1) + 2)).fits,
+    ))
+    (λ c. search rules) (λ c κs. search rules) (λ c κs. search rules)
+    -- one record that is compared
+    (λ c.
+    let low = c.loop-i.invariant.0 in
+    let test = c.loop-i-test.true in
+    find_found _ _ _ c.loop-i.i c.loop-i.invariant.2 refl (omega arith) c.term_at.ensures c.same.ensures c.if-same.true)
+    (λ c. search rules)
+    (λ c.
+    let low = c.loop-i.invariant.0 in
+    let test = c.loop-i-test.true in (
+      search rules,
+      search rules,
+      find_next _ _ _ c.loop-i.i c.loop-i.invariant.2 refl (omega arith) c.term_at.ensures c.same.ensures c.if-same.false,
+    ))
     (λ c. search rules) (λ c κs. search rules) (λ c. search rules) (λ c κs. search rules) (λ c κs. search rules) (λ c. search (rules, find_found))
     (λ c. search rules) (λ c. search rules) (λ c. search (rules, find_next)) (λ c. search (rules, find_none)))
