@@ -1,6 +1,6 @@
 // What an accepted rule leaves: the answer, and the session with one rule more. The caller has tested that the session may
 // accept one more (test 9).
-#![tactic(auto)]
+#![tactic(auto, using(notation::proofs::Follow::tests), unfolding(semantics::specs::Answers::answer_of, semantics::specs::Evaluate::halted_again))]
 
 ghost use Rattle.std.specs.Prelude.{List, ◌≡◌, ℕ, ◌<◌};
 ghost use Rattle.semantics.specs.Numbers.{rule_limit};
@@ -14,12 +14,12 @@ pub fn advanced(session: Session, count: u16, res: Result) -> Session
     requires { session.accepted < rule_limit }
     ensures { result ≡ «advanced-session» session count res }
 {
+    // `inputs: session.inputs` would copy an array field into the literal, which the borrow checker does not cover.
     let inputs = session.inputs;
-    let state = res.state;
     Session {
-        inputs: inputs,
-        count: count,
-        state: state,
+        inputs,
+        count,
+        state: res.state,
         halted: res.halted,
         accepted: session.accepted + 1,
     }
@@ -29,17 +29,16 @@ pub fn advanced(session: Session, count: u16, res: Result) -> Session
 pub fn answer(res: Result, depth: u16) -> Answer
     ensures { result ≡ answer_of res depth }
 {
-    let state = res.state;
     if res.halted {
         return Answer::Halt {
-            state: state,
-            depth: depth,
+            state: res.state,
+            depth,
         };
     }
     Answer::Out {
-        state: state,
+        state: res.state,
         value: res.value,
-        depth: depth,
+        depth,
     }
 }
 
@@ -48,15 +47,14 @@ pub fn halted_again(session: Session) -> Evaluated
     requires { session.accepted < rule_limit }
     ensures { (s : List ℕ) → (result, s) ≡ halted_again session s }
 {
-    let state = session.state;
     let halt = Result {
-        state: state,
+        state: session.state,
         value: 0,
         halted: true,
     };
     Evaluated {
         answer: Answer::Halt {
-            state: state,
+            state: session.state,
             depth: 1,
         },
         session: advanced(session, session.count, halt),

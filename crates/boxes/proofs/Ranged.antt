@@ -136,19 +136,8 @@ module _ (s lows highs : List ℕ) (count : ℕ) (ready : Ready s count highs) w
           covers ns w k j true q = rw (eqb-true k i q, held_open m tops i (sym eb ∙ y)) (open_kind {l = 0} {h = 0} (number_small (new ns w)))
           covers ns w k j false q = let d = eqb-false k i q in rw (← older ns w k d) (g.covers ns w k (omega arith))
 
--- it starts, and ends
-pub ranged_start : (s lows highs w tops : List ℕ) → Ranged s lows highs 0 w w tops
-ranged_start s lows highs w tops = record { long = refl; marks = λ k. refl; covers = λ ns w k h. absurd (omega arith) }
-
-pub ranged_end : (s lows highs : List ℕ) (i n : ℕ) (w m tops : List ℕ) → Ranged s lows highs i w m tops → i ≤ n → n ≤ i → Ranged s lows highs n w m tops
-ranged_end s lows highs i n w m tops g a b = let e : i ≡ n = omega arith in rw e at g
-
 -- ---- a goal that the ranges rule out
 module _ (s : List ℕ) (count : ℕ) (r : Result) (goal : Goal) (lows highs : List ℕ) {w m tops : List ℕ} (u : Under s count r w) (g : Ranged s lows highs count w m tops) where
-  -- the marks stay
-  pub ranged_under : Under s count r m
-  ranged_under = record { enough = rw g.long u.enough; marks = λ k. g.marks k ∙ u.marks k }
-
   pub not_reached : {b : Bool} → b ≡ may_reach goal r.halted (range_held (take count m) tops r.state.assumed) (range_held (take count m) tops r.state.asserted) (range_held (take count m) tops r.value)
       → b ≡ false → NotReached s count r goal lows highs
   unfolding reached_at read_in readings

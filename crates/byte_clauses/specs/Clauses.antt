@@ -3,7 +3,7 @@
 use Rattle.std.specs.Prelude.{ℕ, List, eqb, length, set}
 use Rattle.notation.specs.Notation.{with, if◌equals◌then◌else◌, unless◌then◌else◌}
 use Rattle.semantics.specs.Numbers.{misfit, bad_result}
-use Rattle.dimacs.specs.declared.Written.{Written}
+use Rattle.dimacs.specs.Written.{Written}
 use Rattle.dimacs.specs.Write.{write_of}
 use Rattle.forms.specs.Forms.{session_length, result_length, reading_length, wrong_length, session_in, session_formed, result_in}
 use Rattle.goal_forms.specs.Goals.{goal_formed, goal_in}

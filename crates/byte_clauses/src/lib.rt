@@ -3,37 +3,32 @@
 #![tactic(auto)]
 
 ghost use Rattle.std.specs.Prelude.{◌≡◌};
+ghost use Rattle.semantics.specs.Refusals.{answer_number};
 ghost use Rattle.byte_clauses.specs.Clauses.{clauses_unformed, desk_clauses};
 
-use semantics::numbers;
+use semantics::Refusal;
+use writer::Unwritten;
 
-// The refusal of a form of another length, then of a goal and of a session that is not of its form; else 0.
-fn clauses_unformed(session: &[u8], res: &[u8], goal: &[u8], lengths: usize) -> u8
-    ensures { result ≡ clauses_unformed session.now res.now goal.now lengths }
+// The tests of the forms: their lengths and the goal, then the session.
+#[tactic(auto, using(crate::proofs::Answers::forms), unfolding(crate::specs::Clauses::clauses_unformed))]
+fn test_forms(session: &[u8], res: &[u8], goal: &[u8], lengths: usize) -> Result<(), Refusal>
+    ensures { answer_number result ≡ clauses_unformed session.now res.now goal.now lengths }
 {
-    if session.len() != forms::SESSION {
-        return forms::WRONG_LENGTH;
+    if session.len() != forms::SESSION
+        || res.len() != forms::RESULT
+        || goal.len() != forms::READING
+        || lengths != 1
+        || !goal_forms::goal_formed(goal)
+    {
+        return Err(Refusal::WrongLength);
     }
-    if res.len() != forms::RESULT {
-        return forms::WRONG_LENGTH;
+    if !forms::session_formed(session) {
+        return Err(Refusal::Misfit);
     }
-    if goal.len() != forms::READING {
-        return forms::WRONG_LENGTH;
-    }
-    if lengths != 1 {
-        return forms::WRONG_LENGTH;
-    }
-    if goal_forms::goal_formed(goal) {} else {
-        return forms::WRONG_LENGTH;
-    }
-    if forms::session_formed(session) {
-        0
-    } else {
-        numbers::MISFIT
-    }
+    Ok(())
 }
 
-// Writes the clauses of a table and a goal.
+// Writes the clauses of a table and a goal. A number, as the C interface answers with it.
 pub fn clauses(
     session: &[u8],
     table: &[u8],
@@ -44,9 +39,8 @@ pub fn clauses(
 ) -> u8
     ensures { (result, text.new, length.new) ≡ desk_clauses session.now table.now res.now goal.now text.old length.old }
 {
-    let unformed = clauses_unformed(session, res, goal, length.len());
-    if unformed != 0 {
-        return unformed;
+    if let Err(refusal) = test_forms(session, res, goal, length.len()) {
+        return refusal.number();
     }
     let written = writer::write(
         forms::session_in(session),
@@ -55,12 +49,18 @@ pub fn clauses(
         goal_forms::goal_in(goal),
         text,
     );
-    if written.refusal == numbers::MISFIT {
-        return written.refusal;
+    match written {
+        Ok(n) => {
+            length[0] = n as u64;
+            0
+        }
+        // In two steps: under one pattern of both the proof did not close.
+        Err(why) => match why {
+            Unwritten::TooLong(n) => {
+                length[0] = n as u64;
+                Refusal::TextLong.number()
+            }
+            Unwritten::Refused(refusal) => refusal.number(),
+        },
     }
-    if written.refusal == numbers::BAD_RESULT {
-        return written.refusal;
-    }
-    length[0] = written.length as u64;
-    written.refusal
 }

@@ -21,3 +21,11 @@ desk_evaluate session table rule allowance answer =
     unless eqb (length answer) answer_length then (wrong_length, session, table, answer) else
     unless session_formed session then (misfit, session, table, answer) else
     evaluated_form (evaluate_of rule allowance (session_in session) table) session answer
+
+-- the number of those that come before Evaluate's own, where the answer's place has l bytes; 0 where none refuses
+unfoldable pub evaluate_unformed : List ℕ → ℕ → ℕ
+evaluate_unformed session l =
+    unless eqb (length session) session_length then wrong_length else
+    unless eqb l answer_length then wrong_length else
+    unless session_formed session then misfit else
+    0

@@ -2,35 +2,31 @@
 #![tactic(auto)]
 
 ghost use Rattle.std.specs.Prelude.{◌≡◌};
+ghost use Rattle.semantics.specs.Refusals.{answer_number};
 ghost use Rattle.byte_reading.specs.Read.{read_unformed, desk_read};
 
 use reader::Place;
-use semantics::numbers;
+use semantics::Refusal;
 
-// The refusal of a form of another length, then of a session that is not of its form; else 0.
-fn read_unformed(session: &[u8], numbers: &[u8], res: &[u8], reading: usize) -> u8
-    ensures { result ≡ read_unformed session.now numbers.now res.now reading }
+// The tests of the forms: their lengths, then the session.
+#[tactic(auto, using(crate::proofs::Answers::forms), unfolding(crate::specs::Read::read_unformed))]
+fn test_forms(session: &[u8], numbers: &[u8], res: &[u8], reading: usize) -> Result<(), Refusal>
+    ensures { answer_number result ≡ read_unformed session.now numbers.now res.now reading }
 {
-    if session.len() != forms::SESSION {
-        return forms::WRONG_LENGTH;
+    if session.len() != forms::SESSION
+        || numbers.len() != forms::NUMBERS
+        || res.len() != forms::RESULT
+        || reading != forms::READING
+    {
+        return Err(Refusal::WrongLength);
     }
-    if numbers.len() != forms::NUMBERS {
-        return forms::WRONG_LENGTH;
+    if !forms::session_formed(session) {
+        return Err(Refusal::Misfit);
     }
-    if res.len() != forms::RESULT {
-        return forms::WRONG_LENGTH;
-    }
-    if reading != forms::READING {
-        return forms::WRONG_LENGTH;
-    }
-    if forms::session_formed(session) {
-        0
-    } else {
-        numbers::MISFIT
-    }
+    Ok(())
 }
 
-// Reads a result under sixteen numbers.
+// Reads a result under sixteen numbers. A number, as the C interface answers with it.
 pub fn read(
     session: &[u8],
     table: &[u8],
@@ -41,10 +37,9 @@ pub fn read(
 ) -> u8
     ensures { (result, work.new, reading.new) ≡ desk_read session.now table.now numbers.now res.now work.old reading.old }
 {
-    let unformed = read_unformed(session, numbers, res, reading.len());
-    if unformed != 0 {
+    if let Err(refusal) = test_forms(session, numbers, res, reading.len()) {
         reader::wipe(work);
-        return unformed;
+        return refusal.number();
     }
     let outcome = operations::read(
         forms::session_in(session),

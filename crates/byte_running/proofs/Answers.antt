@@ -3,20 +3,25 @@ use mathlib.Core.Path.{◌≡◌}
 use mathlib.Core.List.{List}
 use Prim.Native.Nat.{ℕ}
 use lib.ListN.{length, replicate}
-use borrow.Author.Tests.{eq-eqb, ne_eqb}
+use borrow.Author.Tests.{eq-eqb}
+use Rattle.notation.proofs.Follow.{tests}
 use Rattle.notation.specs.Notation.{with, if◌equals◌then◌else◌}
 use Rattle.semantics.specs.declared.Input.{Input}
 use Rattle.semantics.specs.declared.Outcome.{Outcome}
+use Rattle.semantics.specs.declared.refusal.Refusal.{Refusal}
+use Rattle.semantics.specs.Refusals.{number_of}
 use Rattle.semantics.specs.PlainRun.{run_plainly_of}
 use Rattle.forms.specs.Forms.{inputs_in, numbers_in, words_of}
 use Rattle.forms.specs.Answers.{outcome_values, written_at}
+use Rattle.forms.proofs.Lengths.{long_so, long_not}
 use Rattle.forms.proofs.Outcomes.{told}
+use Rattle.operations.proofs.Answers.{numbered}
 use Rattle.byte_running.specs.Run.{run_unformed, desk_run}
 
 module _ (inputs numbers rule : List ℕ) (allowance : ℕ) (store reading : List ℕ) {k : ℕ} (ek : k ≡ run_unformed inputs numbers (length reading)) where
-  pub run_unformed_lem : (k ≡ 0 → ⊥) → {y : List ℕ} → y ≡ replicate (length store) 0 → (k, y, reading) ≡ desk_run inputs numbers rule allowance store reading
+  pub unformed : (e : Refusal) → number_of e ≡ k → {n : ℕ} → n ≡ number_of e → {y : List ℕ} → y ≡ replicate (length store) 0 → (n, y, reading) ≡ desk_run inputs numbers rule allowance store reading
   unfolding desk_run with if◌equals◌then◌else◌
-  run_unformed_lem n ey = rw (← ek, ne_eqb k 0 n, ey)
+  unformed e q en ey = rw (← ek, ← q, numbered e, en, ey)
 
   module _ (h : k ≡ 0) where
     module _ {xs : List Input} (ex : xs ≡ inputs_in inputs) {ns : List ℕ} (en : ns ≡ numbers_in numbers) where
@@ -24,3 +29,5 @@ module _ (inputs numbers rule : List ℕ) (allowance : ℕ) (store reading : Lis
           → (a, y, z) ≡ desk_run inputs numbers rule allowance store reading
       unfolding desk_run with if◌equals◌then◌else◌
       run_whole eo ea = rw (← ek, eq-eqb k 0 h, ← ex, ← en) (told _ reading eo ea)
+
+pub ruleset forms = (tests, long_so, long_not)

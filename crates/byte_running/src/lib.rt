@@ -2,28 +2,26 @@
 #![tactic(auto)]
 
 ghost use Rattle.std.specs.Prelude.{◌≡◌};
+ghost use Rattle.semantics.specs.Refusals.{answer_number};
 ghost use Rattle.byte_running.specs.Run.{run_unformed, desk_run};
 
-use semantics::numbers;
+use semantics::Refusal;
 
-// The refusal of a form of another length, then of inputs that are not of their form; else 0.
-fn run_unformed(inputs: &[u8], numbers: &[u8], reading: usize) -> u8
-    ensures { result ≡ run_unformed inputs.now numbers.now reading }
+// The tests of the forms: their lengths, then the inputs.
+#[tactic(auto, using(crate::proofs::Answers::forms), unfolding(crate::specs::Run::run_unformed))]
+fn test_forms(inputs: &[u8], numbers: &[u8], reading: usize) -> Result<(), Refusal>
+    ensures { answer_number result ≡ run_unformed inputs.now numbers.now reading }
 {
-    if numbers.len() != forms::NUMBERS {
-        return forms::WRONG_LENGTH;
+    if numbers.len() != forms::NUMBERS || reading != forms::READING {
+        return Err(Refusal::WrongLength);
     }
-    if reading != forms::READING {
-        return forms::WRONG_LENGTH;
+    if !forms::inputs_formed(inputs) {
+        return Err(Refusal::BadInput);
     }
-    if forms::inputs_formed(inputs) {
-        0
-    } else {
-        numbers::BAD_INPUT
-    }
+    Ok(())
 }
 
-// Runs a rule plainly under sixteen numbers.
+// Runs a rule plainly under sixteen numbers. A number, as the C interface answers with it.
 pub fn run(
     inputs: &[u8],
     numbers: &[u8],
@@ -34,10 +32,9 @@ pub fn run(
 ) -> u8
     ensures { (result, store.new, reading.new) ≡ desk_run inputs.now numbers.now rule.now allowance store.old reading.old }
 {
-    let unformed = run_unformed(inputs, numbers, reading.len());
-    if unformed != 0 {
+    if let Err(refusal) = test_forms(inputs, numbers, reading.len()) {
         slices::wipe(store, 0);
-        return unformed;
+        return refusal.number();
     }
     let outcome = operations::run_plainly(
         forms::inputs_in(inputs),

@@ -3,30 +3,28 @@
 #![tactic(auto)]
 
 ghost use Rattle.std.specs.Prelude.{◌≡◌};
+ghost use Rattle.semantics.specs.Refusals.{answer_number};
 ghost use Rattle.byte_samples.specs.Samples.{samples_unformed, desk_read_all};
 
 use reader::Place;
-use semantics::numbers;
+use semantics::Refusal;
 use words::Word;
 
-// The refusal of a form of another length, then of a session that is not of its form; else 0.
-fn samples_unformed(session: &[u8], res: &[u8]) -> u8
-    ensures { result ≡ samples_unformed session.now res.now }
+// Refuses a form of another length, then a session that is not of its form.
+#[tactic(auto, using(notation::proofs::Follow::tests, forms::proofs::Lengths::long_so, forms::proofs::Lengths::long_not), unfolding(crate::specs::Samples::samples_unformed))]
+fn formed(session: &[u8], res: &[u8]) -> Result<(), Refusal>
+    ensures { answer_number result ≡ samples_unformed session.now res.now }
 {
-    if session.len() != forms::SESSION {
-        return forms::WRONG_LENGTH;
+    if session.len() != forms::SESSION || res.len() != forms::RESULT {
+        return Err(Refusal::WrongLength);
     }
-    if res.len() != forms::RESULT {
-        return forms::WRONG_LENGTH;
+    if !forms::session_formed(session) {
+        return Err(Refusal::Misfit);
     }
-    if forms::session_formed(session) {
-        0
-    } else {
-        numbers::MISFIT
-    }
+    Ok(())
 }
 
-// Reads a result under each sample of sixteen numbers.
+// Reads a result under each sample of sixteen numbers. The C interface takes a number, and no `Result`.
 pub fn read_all(
     session: &[u8],
     table: &[u8],
@@ -37,17 +35,17 @@ pub fn read_all(
 ) -> u8
     ensures { (result, work.new, answers.new) ≡ desk_read_all session.now table.now res.now numbers.now work.old answers.old }
 {
-    let unformed = samples_unformed(session, res);
-    if unformed != 0 {
+    if let Err(refusal) = formed(session, res) {
         reader::wipe(work);
-        return unformed;
+        return refusal.number();
     }
-    samples::read_all(
+    let answer = samples::read_all(
         forms::session_in(session),
         table,
         forms::result_in(res),
         numbers,
         work,
         answers,
-    )
+    );
+    semantics::answer_number(answer)
 }

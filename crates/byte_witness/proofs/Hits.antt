@@ -1,14 +1,19 @@
 -- The words of a hit, written one after another. Assumes nothing.
 use mathlib.Core.Path.{◌≡◌, refl, ap, ◌∙◌}
+use mathlib.Core.Bool.{Bool}
 use mathlib.Core.List.{List, [], ◌∷◌, ◌++◌}
 use Prim.Native.Nat.{ℕ, ◌+◌, ◌*◌, ◌<◌, ◌≤◌}
 use native.Mathlib.Numerals.{add-one}
 use native.Mathlib.Omega.{arith}
-use lib.ListN.{length, get_or, take}
+use lib.ListN.{length, get_or, take, replicate}
 use lib.Seq.{sets, take-suc, take_all, length-take-le}
+use Rattle.std.specs.Option.{is_some, unwrap_or}
+use Rattle.std.specs.declared.option.Option.{Option}
+use Rattle.std.specs.declared.option.Option.TheVariants.{None, Some}
 use Rattle.words.specs.Words.{word_bytes}
 use Rattle.operators.specs.Operators.{bit_of}
-use Rattle.semantics.specs.declared.Hit.{Hit}
+use Rattle.semantics.specs.Numbers.{input_count}
+use Rattle.witness.specs.Told.{hit_told}
 use Rattle.forms.specs.Forms.{word_bytes_of, words_of}
 use Rattle.forms.proofs.Written.{sets_then}
 use Rattle.byte_witness.specs.Witness.{hit_bytes}
@@ -36,5 +41,15 @@ module _ (s₀ ns : List ℕ) (i : ℕ) where
   numbers_done h es = es ∙ rw (take_all i ns h)
 
 -- the mark, and the numbers
-pub hit_put : (h : Hit) {b : ℕ} → b ≡ bit_of h.found → (s : List ℕ) {y z : List ℕ} → y ≡ sets s 0 (word_bytes_of b) → z ≡ sets y word_bytes (words_of h.numbers) → z ≡ sets s 0 (hit_bytes h)
-hit_put h {b} eb s ey ez = ez ∙ rw (ey, eb) (sets_then (word_bytes_of (bit_of h.found)) (words_of h.numbers) s 0 word_bytes refl)
+found_told : (o : Option (List ℕ)) → is_some o ≡ (hit_told o).found
+found_told None = refl
+found_told (Some ns) = refl
+
+numbers_told : (o : Option (List ℕ)) → unwrap_or o (replicate input_count 0) ≡ (hit_told o).numbers
+numbers_told None = refl
+numbers_told (Some ns) = refl
+
+pub hit_put : (o : Option (List ℕ)) {f : Bool} → f ≡ is_some o → {b : ℕ} → b ≡ bit_of f → {ns : List ℕ} → ns ≡ unwrap_or o (replicate input_count 0) → (s : List ℕ) {y z : List ℕ} → y ≡ sets s 0 (word_bytes_of b)
+    → z ≡ sets y word_bytes (words_of ns) → z ≡ sets s 0 (hit_bytes (hit_told o))
+hit_put o ef {b} eb en s ey ez =
+    ez ∙ rw (ey, eb, ef, en, found_told o, numbers_told o) (sets_then (word_bytes_of (bit_of (hit_told o).found)) (words_of (hit_told o).numbers) s 0 word_bytes refl)

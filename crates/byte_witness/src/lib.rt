@@ -1,15 +1,17 @@
 // Witnesses over byte forms. Spans are given as two forms of numbers, or not at all, as two empty ones. The work list is zero on every
 // return. No public function has a `requires`.
-#![tactic(auto)]
+#![tactic(auto, using(notation::proofs::Follow::tests), unfolding(crate::specs::Witness::spans_given, crate::specs::Witness::witness_unformed))]
 
 ghost use Rattle.std.specs.Prelude.{◌≡◌};
 ghost use Rattle.std.proofs.lemmas.List.Edits.{sets};
 ghost use Rattle.words.specs.Words.{word_bytes};
+ghost use Rattle.semantics.specs.Refusals.{answer_number};
 ghost use Rattle.forms.specs.Forms.{words_of};
+ghost use Rattle.witness.specs.Told.{hit_told};
 ghost use Rattle.byte_witness.specs.Witness.{spans_given, hit_bytes, witness_unformed, desk_witness};
 
 use reader::Place;
-use semantics::{Hit, numbers};
+use semantics::Refusal;
 use words::Word;
 
 // The bytes of a word.
@@ -22,52 +24,35 @@ const HIT: usize = words::BYTES + forms::NUMBERS;
 fn spans_given(lows: usize, highs: usize) -> bool
     ensures { result ≡ spans_given lows highs }
 {
-    if lows == 0 {
-        highs == 0
-    } else if lows == forms::NUMBERS {
-        highs == forms::NUMBERS
-    } else {
-        false
-    }
+    lows == 0 && highs == 0 || lows == forms::NUMBERS && highs == forms::NUMBERS
 }
 
-// The refusal of a form of another length, then of a goal and of a session that is not of its form; else 0.
-fn witness_unformed(
+// The refusal of a form of another length, then of a goal and of a session that is not of its form.
+fn formed(
     session: &[u8],
     res: &[u8],
     goal: &[u8],
     lows: usize,
     highs: usize,
     places: usize,
-) -> u8
-    ensures { result ≡ witness_unformed session.now res.now goal.now lows highs places }
+) -> Result<(), Refusal>
+    ensures { answer_number result ≡ witness_unformed session.now res.now goal.now lows highs places }
 {
-    if session.len() != forms::SESSION {
-        return forms::WRONG_LENGTH;
+    let lengths = session.len() == forms::SESSION
+        && res.len() == forms::RESULT
+        && goal.len() == forms::READING
+        && spans_given(lows, highs)
+        && places == HIT;
+    if !lengths || !goal_forms::goal_formed(goal) {
+        return Err(Refusal::WrongLength);
     }
-    if res.len() != forms::RESULT {
-        return forms::WRONG_LENGTH;
+    if !forms::session_formed(session) {
+        return Err(Refusal::Misfit);
     }
-    if goal.len() != forms::READING {
-        return forms::WRONG_LENGTH;
-    }
-    if spans_given(lows, highs) {} else {
-        return forms::WRONG_LENGTH;
-    }
-    if places != HIT {
-        return forms::WRONG_LENGTH;
-    }
-    if goal_forms::goal_formed(goal) {} else {
-        return forms::WRONG_LENGTH;
-    }
-    if forms::session_formed(session) {
-        0
-    } else {
-        numbers::MISFIT
-    }
+    Ok(())
 }
 
-// Looks for the first reading that reaches a goal, and writes it.
+// Looks for the first reading that reaches a goal, and writes it. The C interface has the answer as a number.
 pub fn witness(
     session: &[u8],
     table: &[u8],
@@ -80,10 +65,9 @@ pub fn witness(
 ) -> u8
     ensures { (result, work.new, hit.new) ≡ desk_witness session.now table.now res.now goal.now lows.now highs.now work.old hit.old }
 {
-    let unformed = witness_unformed(session, res, goal, lows.len(), highs.len(), hit.len());
-    if unformed != 0 {
+    if let Err(refusal) = formed(session, res, goal, lows.len(), highs.len(), hit.len()) {
         reader::wipe(work);
-        return unformed;
+        return refusal.number();
     }
     let found = witness::witness(
         forms::session_in(session),
@@ -95,30 +79,28 @@ pub fn witness(
         forms::numbers_in(highs),
         work,
     );
-    if found.refusal != 0 {
-        return found.refusal;
+    match found {
+        Ok(numbers) => {
+            put_hit(hit, numbers);
+            0
+        }
+        Err(refusal) => refusal.number(),
     }
-    let h = found.hit;
-    put_hit(hit, h);
-    0
 }
 
-// Whether there is one, and its numbers.
-fn put_hit(place: &mut [u8], h: Hit)
-    ensures { place.new ≡ sets place.old 0 (hit_bytes h) }
+// Whether there is one, and its numbers; zeros where there is none.
+fn put_hit(place: &mut [u8], hit: Option<[Word; 16]>)
+    ensures { place.new ≡ sets place.old 0 (hit_bytes (hit_told hit)) }
 {
-    let numbers = h.numbers;
-    forms::put_word(place, 0, operators::bit(h.found));
-    put_numbers(place, numbers);
+    forms::put_word(place, 0, operators::bit(hit.is_some()));
+    put_numbers(place, hit.unwrap_or([0; 16]));
 }
 
 // The numbers, after the first word.
 fn put_numbers(place: &mut [u8], numbers: [Word; 16])
     ensures { place.new ≡ sets place.old word_bytes (words_of numbers) }
 {
-    let mut i: u16 = 0;
-    while i < numbers::INPUT_COUNT {
+    for i in 0..16 {
         forms::put_word(place, WORD * (i + 1), numbers[i as usize]);
-        i += 1;
     }
 }

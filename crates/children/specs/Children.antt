@@ -1,22 +1,26 @@
--- What the functions of this crate hand to each other and to the pass: a record's children in a struct, and the marks of the tree test. Assumes
+-- What the functions of this crate hand to each other and to the pass: a record's children, and the marks of the tree test. Assumes
 -- nothing.
-use Rattle.std.specs.Prelude.{ℕ, ◌+◌, ◌≤◌, min, List, [], ◌∷◌, get_or, set, take}
+use Rattle.std.specs.Prelude.{ℕ, ◌+◌, ◌≤◌, min, List, [], ◌∷◌, get_or, set}
 use Rattle.semantics.specs.Rules.{Part, part}
 use Rattle.children.specs.declared.Child.{Child}
 use Rattle.children.specs.declared.Children.{Children}
+use Rattle.children.specs.declared.Children.TheVariants.{Empty, One, Two}
 
 -- a child, as the definitions have it
 abbrev pub part_of : Child → Part
 part_of c = part c.at c.more
 
--- the children that a struct holds
-unfoldable pub children_of : Children → List Part
-children_of x = take x.count (part_of x.first ∷ part_of x.second ∷ [])
+-- the children that the code holds, in their order
+abbrev pub children_of : Children → List Part
+children_of Empty = []
+children_of (One a) = part_of a ∷ []
+children_of (Two a b) = part_of a ∷ part_of b ∷ []
 
--- neither child has more than one binding more than its parent
-pub record OneMore (x : Children) : Type 0 where
-  pub first : x.first.more ≤ 1
-  pub second : x.second.more ≤ 1
+-- no child has more than one binding more than its parent
+abbrev pub OneMore : Children → Type 0
+OneMore Empty = Unit {0}
+OneMore (One a) = a.more ≤ 1
+OneMore (Two a b) = (a.more ≤ 1) × (b.more ≤ 1)
 
 -- one mark more for record c, and at most two
 unfoldable pub bumped_of : List ℕ → ℕ → List ℕ

@@ -9,7 +9,8 @@ use lib.ListN.{length, set, take, drop, length-set}
 use lib.Seq.{take-suc-set}
 use borrow.Author.Tests.{lt-ltb}
 use Rattle.notation.specs.Notation.{if◌below◌then◌else◌}
-use Rattle.cursor.specs.Sink.{most_text, Sink, sink_of, put_one, wrote, Writes}
+use Rattle.cursor.specs.declared.Cursor.{Cursor}
+use Rattle.cursor.specs.Sink.{most_text, Sink, sink_of, put_one, wrote, Writes, Fills}
 
 put_fits : (s : List ℕ) (n b : ℕ) → n < most_text → put_one (sink_of s n) b ≡ sink_of (set s n b) (n + 1)
 unfolding put_one if◌below◌then◌else◌
@@ -45,10 +46,14 @@ stands (b ∷ t) s n h l =
     ∙ (rw (q, add-one n, take-suc-set s n b k, drop_set s n b (n + suc (length t)) (omega arith)) (append_assoc (take n s) (b ∷ []) (t ++ drop (n + suc (length t)) s))))
 
 -- ---- from the start
-pub measured : {t s y : List ℕ} {m : ℕ} → Writes t s 0 y m → length t ≤ most_text → m ≡ length t
+-- what a cursor wrote is in the buffer that it was lent, once the cursor still holds it
+pub filled : {t : List ℕ} {c d : Cursor} → Writes t c d → c.at ≡ 0 → {z : List ℕ} → (c.buffer.ghost_name ≡ d.buffer.ghost_name → z ≡ d.buffer.now) → Fills t c.buffer.now z d.at
+filled {t} {c} {d} w e {z} h = record { is = rw (h (sym w.same)) (w.is ∙ ap (λ n. wrote (sink_of c.buffer.now n) t) e) }
+
+pub measured : {t s y : List ℕ} {m : ℕ} → Fills t s y m → length t ≤ most_text → m ≡ length t
 measured {t} {s} w l = ap (λ (k : Sink). k.at) w.is ∙ (place t s 0 (omega arith) ∙ omega arith)
 
-pub stored : {t s z : List ℕ} {m : ℕ} → Writes t s 0 z m → length t ≤ length s → length t ≤ most_text → z ≡ t ++ drop (length t) s
+pub stored : {t s z : List ℕ} {m : ℕ} → Fills t s z m → length t ≤ length s → length t ≤ most_text → z ≡ t ++ drop (length t) s
 stored {t} {s} w h l =
     let e : 0 + length t ≡ length t = omega arith in
     ap (λ (k : Sink). k.bytes) w.is ∙ (stands t s 0 (omega arith) (omega arith) ∙ ap (λ n. t ++ drop n s) e)

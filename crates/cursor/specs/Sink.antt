@@ -1,6 +1,7 @@
 -- Where text goes: bytes, and the place of the next one; and what code that writes text promises. Assumes nothing.
 use Rattle.std.specs.Prelude.{◌≡◌, List, [], ◌∷◌, ℕ, ◌+◌, set}
 use Rattle.notation.specs.Notation.{if◌below◌then◌else◌}
+use Rattle.cursor.specs.declared.Cursor.{Cursor}
 
 -- more bytes than any text has
 abbrev pub most_text : ℕ
@@ -22,6 +23,15 @@ unfoldable pub wrote : Sink → List ℕ → Sink
 wrote k [] = k
 wrote k (b ∷ bs) = wrote (put_one k b) bs
 
--- The text was written from `at` on, up to r.
-pub record Writes (text entry : List ℕ) (at : ℕ) (exit : List ℕ) (r : ℕ) : Type 0 where
-  pub is : sink_of exit r ≡ wrote (sink_of entry at) text
+-- what a cursor writes to
+abbrev pub sink_at : Cursor → Sink
+sink_at c = sink_of c.buffer.now c.at
+
+-- The text was written from the cursor's place on, into the same buffer.
+pub record Writes (text : List ℕ) (entry exit : Cursor) : Type 0 where
+  pub same : exit.buffer.ghost_name ≡ entry.buffer.ghost_name
+  pub is : sink_at exit ≡ wrote (sink_at entry) text
+
+-- The text was written over these bytes from their start on, up to r.
+pub record Fills (text entry exit : List ℕ) (r : ℕ) : Type 0 where
+  pub is : sink_of exit r ≡ wrote (sink_of entry 0) text

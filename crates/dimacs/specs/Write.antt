@@ -10,7 +10,7 @@ use Rattle.semantics.specs.Numbers.{misfit, bad_result, text_long}
 use Rattle.semantics.specs.Terms.{terms_in}
 use Rattle.semantics.specs.Fits.{fits_of}
 use Rattle.semantics.specs.Reading.{result_taken}
-use Rattle.dimacs.specs.declared.Written.{Written}
+use Rattle.dimacs.specs.Written.{Written}
 use Rattle.dimacs.specs.Text.{text_for}
 
 abbrev pub written_of : ℕ → ℕ → Written

@@ -7,126 +7,101 @@ ghost use Rattle.std.specs.Prelude.{◌≡◌};
 ghost use Rattle.semantics.specs.Factory.{truth_of, is_word_of, is_procedure_of, constant_of, is_zero_of, zero_absorbs_of, zero_fold_of, operator_term_of};
 ghost use Rattle.terms.specs.Gives.{Makes};
 
-use semantics::{Term, numbers};
-use terms::Made;
+use semantics::{Refusal, Term, numbers};
+use terms::Table;
 use words::Word;
 
 // The truth of a value: only false fails a test.
-pub fn truth(table: &mut [u8], count: u16, x: u16) -> Made
-    ensures { Makes (truth_of x) table.old count result table.new }
+pub fn truth(table: &mut Table, x: u16) -> Result<u16, Refusal>
+    ensures { Makes (truth_of x) table.old result table.new }
 {
-    let sort = terms::sort_at(table, count, x);
-    if sort == numbers::CHOICE_TERM {
-        return makers::make_operator(table, count, numbers::TRUTH_CODE, x, 0);
+    match table.sort(x) {
+        numbers::CHOICE_TERM => makers::make_operator(table, numbers::TRUTH_CODE, x, 0),
+        numbers::TRUTH_TERM => Ok(x),
+        _ => Ok(numbers::TRUE_NUMBER),
     }
-    if sort == numbers::TRUTH_TERM {
-        return terms::present(table, count, x);
-    }
-    terms::present(table, count, numbers::TRUE_NUMBER)
 }
 
 // Whether a value is a word.
-pub fn is_word(table: &mut [u8], count: u16, x: u16) -> Made
-    ensures { Makes (is_word_of x) table.old count result table.new }
+pub fn is_word(table: &mut Table, x: u16) -> Result<u16, Refusal>
+    ensures { Makes (is_word_of x) table.old result table.new }
 {
-    let sort = terms::sort_at(table, count, x);
-    if sort == numbers::CHOICE_TERM {
-        return makers::make_operator(table, count, numbers::IS_WORD_CODE, x, 0);
+    match table.sort(x) {
+        numbers::CHOICE_TERM => makers::make_operator(table, numbers::IS_WORD_CODE, x, 0),
+        numbers::WORD_TERM => Ok(numbers::TRUE_NUMBER),
+        _ => Ok(numbers::FALSE_NUMBER),
     }
-    if sort == numbers::WORD_TERM {
-        return terms::present(table, count, numbers::TRUE_NUMBER);
-    }
-    terms::present(table, count, numbers::FALSE_NUMBER)
 }
 
 // Whether a value is a procedure.
-pub fn is_procedure(table: &mut [u8], count: u16, x: u16) -> Made
-    ensures { Makes (is_procedure_of x) table.old count result table.new }
+pub fn is_procedure(table: &mut Table, x: u16) -> Result<u16, Refusal>
+    ensures { Makes (is_procedure_of x) table.old result table.new }
 {
-    let sort = terms::sort_at(table, count, x);
-    if sort == numbers::CHOICE_TERM {
-        return makers::make_operator(table, count, numbers::IS_PROCEDURE_CODE, x, 0);
+    match table.sort(x) {
+        numbers::CHOICE_TERM => makers::make_operator(table, numbers::IS_PROCEDURE_CODE, x, 0),
+        numbers::PROCEDURE_TERM => Ok(numbers::TRUE_NUMBER),
+        _ => Ok(numbers::FALSE_NUMBER),
     }
-    if sort == numbers::PROCEDURE_TERM {
-        return terms::present(table, count, numbers::TRUE_NUMBER);
-    }
-    terms::present(table, count, numbers::FALSE_NUMBER)
 }
 
 // What an operator gives, worked out: a truth has the number of the term false or true.
-fn constant(table: &mut [u8], count: u16, op: u8, w: Word) -> Made
-    ensures { Makes (constant_of op w) table.old count result table.new }
+fn constant(table: &mut Table, op: u8, w: Word) -> Result<u16, Refusal>
+    ensures { Makes (constant_of op w) table.old result table.new }
 {
     if operators::gives_truth(op) {
-        return terms::present(table, count, terms::truth_number(w));
+        return Ok(terms::truth_number(w));
     }
-    makers::make_word(table, count, w)
+    makers::make_word(table, w)
 }
 
 // Whether a term is the word constant 0.
 fn is_zero(t: Term) -> bool
     ensures { result ≡ is_zero_of t }
 {
-    if t.kind == numbers::WORD_TERM {
-        terms::word(t) == 0
-    } else {
-        false
-    }
+    t.kind == numbers::WORD_TERM && terms::word(t) == 0
 }
 
 // Whether an operator gives 0 on 0 and any word.
 fn zero_absorbs(op: u8) -> bool
     ensures { result ≡ zero_absorbs_of op }
 {
-    if op == numbers::MULTIPLY_CODE {
-        true
-    } else {
-        op == numbers::BITWISE_AND_CODE
-    }
+    op == numbers::MULTIPLY_CODE || op == numbers::BITWISE_AND_CODE
 }
 
 // The term of an operator that is not worked out: word 0 where 0 is an operand and absorbs the other.
-fn zero_fold(table: &mut [u8], count: u16, op: u8, x: u16, y: u16) -> Made
-    ensures { Makes (zero_fold_of op x y) table.old count result table.new }
+fn zero_fold(table: &mut Table, op: u8, x: u16, y: u16) -> Result<u16, Refusal>
+    ensures { Makes (zero_fold_of op x y) table.old result table.new }
 {
-    if zero_absorbs(op) {
-        let first = terms::term(table, count, x);
-        if is_zero(first) {
-            return makers::make_word(table, count, 0);
-        }
-        let second = terms::term(table, count, y);
-        if is_zero(second) {
-            return makers::make_word(table, count, 0);
-        }
-        return makers::make_operator(table, count, op, x, y);
+    if !zero_absorbs(op) {
+        return makers::make_operator(table, op, x, y);
     }
-    makers::make_operator(table, count, op, x, y)
+    if is_zero(table.term(x)) {
+        return makers::make_word(table, 0);
+    }
+    if is_zero(table.term(y)) {
+        return makers::make_word(table, 0);
+    }
+    makers::make_operator(table, op, x, y)
 }
 
 // The term of an operator 1 to 12, worked out on word constants.
-pub fn operator(table: &mut [u8], count: u16, op: u8, x: u16, y: u16) -> Made
-    ensures { Makes (operator_term_of op x y) table.old count result table.new }
+pub fn operator(table: &mut Table, op: u8, x: u16, y: u16) -> Result<u16, Refusal>
+    ensures { Makes (operator_term_of op x y) table.old result table.new }
 {
-    let first = terms::term(table, count, x);
-    if first.kind == numbers::WORD_TERM {
-        if operators::operands(op) == 1 {
-            return constant(
-                table,
-                count,
-                op,
-                operators::operate(op, terms::word(first), 0),
-            );
-        }
-        let second = terms::term(table, count, y);
-        if second.kind == numbers::WORD_TERM {
-            return constant(
-                table,
-                count,
-                op,
-                operators::operate(op, terms::word(first), terms::word(second)),
-            );
-        }
-        return zero_fold(table, count, op, x, y);
+    let first = table.term(x);
+    if first.kind != numbers::WORD_TERM {
+        return zero_fold(table, op, x, y);
     }
-    zero_fold(table, count, op, x, y)
+    if operators::operands(op) == 1 {
+        return constant(table, op, operators::operate(op, terms::word(first), 0));
+    }
+    let second = table.term(y);
+    if second.kind != numbers::WORD_TERM {
+        return zero_fold(table, op, x, y);
+    }
+    constant(
+        table,
+        op,
+        operators::operate(op, terms::word(first), terms::word(second)),
+    )
 }

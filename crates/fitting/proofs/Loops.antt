@@ -1,50 +1,56 @@
--- Tests over the terms of a table, from the newest down: each way through a loop, given that what is left of the test decides it (`z` is what the
--- whole test gives). Assumes nothing.
-use mathlib.Core.Path.{◌≡◌}
+-- Tests over the terms of a table, from term 0 up, are the definitions', which go from the newest down. Assumes nothing.
+use mathlib.Core.Path.{◌≡◌, refl, ◌∙◌}
 use mathlib.Core.Bool.{Bool, true, false, ◌&&◌}
 use mathlib.Core.List.{List}
-use Prim.Native.Nat.{ℕ, zero, suc, ◌-◌, ◌<◌, ◌≤◌}
+use Prim.Native.Nat.{ℕ, zero, suc, ◌+◌, ◌-◌}
 use native.Mathlib.Omega.{arith}
+use lib.Dec.{leb}
 use lib.ListN.{take}
-use Rattle.notation.specs.Notation.{pick, when◌then◌else◌, every}
-use Rattle.semantics.specs.declared.Term.{Term}
+use borrow.Author.Tests.{leb-true, leb-false}
+use Rattle.std.specs.List.{list_all, range_with_len}
+use Rattle.notation.specs.Notation.{when◌then◌else◌, every}
 use Rattle.semantics.specs.Terms.{term_at, terms_in, same_of}
 use Rattle.semantics.specs.Fits.{same_terms, no_free}
 
-module _ (s y : List ℕ) {z : Bool} where
-  pub same_end : (i : ℕ) → same_terms (terms_in s i) (terms_in y i) ≡ z → i ≤ 0 → true ≡ z
-  unfolding same_terms terms_in
-  same_end zero inv h = inv
-  same_end (suc i) inv h = absurd (omega arith)
+-- one number more
+all_more : (f : ℕ → Bool) (a n : ℕ) → list_all f (range_with_len a (suc n)) ≡ (f (a + n) && list_all f (range_with_len a n))
+all_more f a n = go n a
+  where
+    last : (x y : Bool) → (x && true) ≡ (x && y) → (x && true) ≡ x
+    last true y e = refl
+    last false y e = refl
 
-  turn : (i : ℕ) → same_terms (terms_in s i) (terms_in y i) ≡ z → 0 < i → {t u : Term} → t ≡ term_at s (i - 1) → u ≡ term_at y (i - 1) → {b : Bool} → b ≡ same_of t u
-      → (b && same_terms (terms_in s (i - 1)) (terms_in y (i - 1))) ≡ z
-  unfolding same_terms terms_in
-  turn zero inv h et eu eb = absurd (omega arith)
-  turn (suc i) inv h et eu eb = let e : suc i - 1 ≡ i = omega arith in rw (eb, et, eu, e) inv
+    swap : (x y z : Bool) → (x && (y && z)) ≡ (y && (x && z))
+    swap true y z = refl
+    swap false true z = refl
+    swap false false z = refl
 
-  module _ (i : ℕ) (inv : same_terms (terms_in s i) (terms_in y i) ≡ z) (h : 0 < i) {t u : Term} (et : t ≡ term_at s (i - 1)) (eu : u ≡ term_at y (i - 1)) {b : Bool} (eb : b ≡ same_of t u) where
-    pub same_next : b ≡ true → same_terms (terms_in s (i - 1)) (terms_in y (i - 1)) ≡ z
-    same_next g = rw g at (turn i inv h et eu eb)
+    go : (n a : ℕ) → list_all f (range_with_len a (suc n)) ≡ (f (a + n) && list_all f (range_with_len a n))
+    go zero a = let e : a + zero ≡ a = omega arith in rw e
+    go (suc n) a =
+        let e : a + suc n ≡ a + 1 + n = omega arith in
+        rw e (rw (go n (a + 1)) (swap (f a) (f (a + 1 + n)) (list_all f (range_with_len (a + 1) n))))
 
-    pub same_miss : b ≡ false → false ≡ z
-    same_miss g = rw g at (turn i inv h et eu eb)
+pub all_same : (s y : List ℕ) (n : ℕ) → list_all (λ i. same_of (term_at s i) (term_at y i)) (range_with_len 0 n) ≡ same_terms (terms_in s n) (terms_in y n)
+unfolding same_terms terms_in
+all_same s y zero = refl
+all_same s y (suc n) = all_more (λ i. same_of (term_at s i) (term_at y i)) 0 n ∙ (let e : 0 + n ≡ n = omega arith in rw (e, all_same s y n))
 
-module _ (s : List ℕ) (n : ℕ) {z : Bool} where
-  pub free_end : (i : ℕ) → every no_free (take (i - n) (terms_in s i)) ≡ z → i ≤ n → true ≡ z
+module _ (s : List ℕ) where
+  free_from : (a n : ℕ) → list_all (λ i. no_free (term_at s i)) (range_with_len a n) ≡ every no_free (take n (terms_in s (a + n)))
+  unfolding every when◌then◌else◌ terms_in
+  free_from a zero = refl
+  free_from a (suc n) =
+      let e : a + suc n ≡ suc (a + n) = omega arith in
+      all_more (λ i. no_free (term_at s i)) a n ∙ rw (e, free_from a n) (tested (no_free (term_at s (a + n))) _)
+    where
+      tested : (x y : Bool) → (x && y) ≡ (when x then y else false)
+      tested true y = refl
+      tested false y = refl
+
+  pub all_free : (n count : ℕ) → list_all (λ i. no_free (term_at s i)) (range_with_len n (count - n)) ≡ every no_free (take (count - n) (terms_in s count))
   unfolding every
-  free_end i inv h = let e : i - n ≡ zero = omega arith in rw e at inv
-
-  next_free : (i : ℕ) → every no_free (take (i - n) (terms_in s i)) ≡ z → n < i → {t : Term} → t ≡ term_at s (i - 1) → {b : Bool} → b ≡ no_free t
-      → pick b (every no_free (take (i - 1 - n) (terms_in s (i - 1)))) false ≡ z
-  unfolding every terms_in when◌then◌else◌
-  next_free zero inv h et eb = absurd (omega arith)
-  next_free (suc i) inv h et eb =
-      let e : suc i - 1 ≡ i = omega arith in let u : suc i - n ≡ suc (i - n) = omega arith in rw (eb, et, e) (rw u at inv)
-
-  module _ (i : ℕ) (inv : every no_free (take (i - n) (terms_in s i)) ≡ z) (h : n < i) {t : Term} (et : t ≡ term_at s (i - 1)) {b : Bool} (eb : b ≡ no_free t) where
-    pub free_next : b ≡ true → every no_free (take (i - 1 - n) (terms_in s (i - 1))) ≡ z
-    free_next g = rw g at (next_free i inv h et eb)
-
-    pub free_miss : b ≡ false → false ≡ z
-    free_miss g = rw g at (next_free i inv h et eb)
+  all_free n count = elim (leb n count) as (λ b. leb n count ≡ b → list_all (λ i. no_free (term_at s i)) (range_with_len n (count - n)) ≡ every no_free (take (count - n) (terms_in s count))) [
+    | true ↦ λ h. let e : n + (count - n) ≡ count = omega (arith, leb-true n count h) in rw e at (free_from n (count - n))
+    | false ↦ λ h. let e : count - n ≡ 0 = omega (arith, leb-false n count h) in rw e
+  ] refl

@@ -1,13 +1,13 @@
 -- What one export wrote is what the next one reads: the bytes of a session are of their form, and they stand for that session; an answer begins
 -- with the bytes of its result. Assumes nothing.
-use mathlib.Core.Path.{◌≡◌, refl, sym, ◌∙◌}
+use mathlib.Core.Path.{◌≡◌, refl, ◌∙◌}
 use mathlib.Core.Bool.{Bool, true, false}
 use mathlib.Core.List.{List, [], ◌∷◌, ◌++◌}
-use Prim.Native.Nat.{ℕ, zero, suc, ◌+◌, ◌*◌, ◌/◌, ◌%◌, ◌<◌, ◌≤◌}
+use Prim.Native.Nat.{ℕ, zero, suc, ◌+◌, ◌*◌, ◌/◌, ◌%◌, ◌<◌}
 use native.Mathlib.Omega.{arith}
 use lib.Dec.{eqb, ltb}
 use lib.ListN.{get_or, take, length, get_or-append}
-use lib.Seq.{sets, take-suc, take_all, get_or-append-add}
+use lib.Seq.{sets, take_all, get_or-append-add}
 use borrow.Author.Tests.{eq-eqb}
 use Rattle.words.specs.Words.{word_bytes, low_of, high_of}
 use Rattle.words.proofs.Words.{join_halves, one_field}
@@ -22,20 +22,15 @@ use Rattle.semantics.specs.Numbers.{input_count}
 use Rattle.semantics.specs.Records.{word_at}
 use Rattle.semantics.specs.Answers.{answer_of, result_in as result_of}
 use Rattle.semantics.specs.Print.{input_size, input_at, input_zeroed}
-use Rattle.forms.specs.Forms.{inputs_length, session_length, result_length, answer_length, each_below, inputs_in, inputs_zeroed, mark_formed, session_in, session_formed, result_at, result_formed, result_in, pairs_of, word_bytes_of, kind_bytes, input_bytes, inputs_bytes, session_bytes}
+use Rattle.forms.specs.Forms.{inputs_length, session_length, result_length, answer_length, inputs_in, inputs_zeroed, mark_formed, session_in, session_formed, result_at, result_formed, result_in, pairs_of, word_bytes_of, kind_bytes, input_bytes, inputs_bytes, session_bytes}
 use Rattle.forms.specs.Answers.{answer_values, written_at}
+use Rattle.forms.proofs.Taken.{each_takes}
 use Rattle.forms.proofs.Written.{sets_whole, inputs_long, session_length_lem}
 
 halves : (n : ℕ) → n % 256 + 256 * (n / 256) ≡ n
 halves n = omega arith
 
 -- ---- the inputs
-
--- elements that are read one after another
-each_takes : {A : Type 0} (f : ℕ → A) (l : List A) (d : A) (n : ℕ) → n ≤ length l → ((i : ℕ) → i < n → f i ≡ get_or l i d) → each_below f n ≡ take n l
-unfolding each_below
-each_takes f l d zero h e = refl
-each_takes f l d (suc n) h e = rw (each_takes f l d n (omega arith) (λ i k. e i (omega arith)), e n (omega arith)) (sym (take-suc l n d h))
 
 -- byte j of input i
 byte_of : (xs : List Input) (r : List ℕ) (d : Input) (i j k : ℕ) → i < length xs → j < input_size → k ≡ input_size * i + j

@@ -1,84 +1,63 @@
 -- What is read from the byte forms, one element at a time. Assumes nothing.
-use mathlib.Core.Path.{◌≡◌, refl, sym, ◌∙◌}
-use mathlib.Core.Bool.{Bool, true, false}
+use mathlib.Core.Path.{◌≡◌, refl, sym, subst, ◌∙◌}
+use mathlib.Core.Bool.{Bool, true, false, ◌&&◌}
 use mathlib.Core.List.{List}
-use Prim.Native.Nat.{ℕ, ◌+◌, ◌*◌, ◌<◌, ◌≤◌}
-use native.Mathlib.Numerals.{add-one}
+use Prim.Native.Nat.{ℕ, zero, suc, ◌+◌, ◌<◌, ◌≤◌}
 use native.Mathlib.Omega.{arith}
+use lib.ListN.{get_or, take, length}
+use lib.Seq.{take_all, take-suc}
+use denote.Param.Members.{Mut, Called}
 use lib.Dec.{eqb}
-use lib.ListN.{get_or, set, take, length}
-use lib.Seq.{take_all, take-suc-set}
-use borrow.Author.Tests.{lt-ltb, le-ltb}
-use Rattle.words.specs.Words.{word_bytes, join_of}
-use Rattle.notation.specs.Notation.{when◌then◌else◌, up_to}
-use Rattle.notation.proofs.Every.{up_next, up_stop, up_end}
-use Rattle.semantics.specs.declared.Input.{Input}
-use Rattle.semantics.specs.Records.{pair_at, word_at}
-use Rattle.semantics.specs.Print.{input_size, input_at, input_zeroed}
-use Rattle.forms.specs.Forms.{inputs_length, each_below, inputs_in, inputs_zeroed, numbers_in, mark_formed, session_in, result_formed, result_in}
+use borrow.Author.Tests.{eqb-true, eqb-false}
+use Rattle.std.proofs.Math.Bool.{and_assoc}
+use Rattle.std.specs.Array.{IsFromFnResultFrom, IsFromFnResult}
+use Rattle.std.specs.List.{list_all, range_with_len}
+use Rattle.notation.specs.Notation.{pick, when◌then◌else◌, up_to}
+use Rattle.forms.specs.Forms.{each_below}
 
--- ---- a word, of its two fields
-pub word_taken : (s : List ℕ) (i : ℕ) {l h : ℕ} → l ≡ pair_at s i → h ≡ pair_at s (i + 2) → {w : ℕ} → w ≡ join_of l h → w ≡ word_at s i
-word_taken s i el eh ew = ew ∙ rw (el, eh)
+-- ---- an array of what a function gives for each number below another
 
--- ---- an array that is filled from its first place on
+-- elements that are read one after another
+pub each_takes : {A : Type 0} (f : ℕ → A) (l : List A) (d : A) (n : ℕ) → n ≤ length l → ((i : ℕ) → i < n → f i ≡ get_or l i d) → each_below f n ≡ take n l
+unfolding each_below
+each_takes f l d zero h e = refl
+each_takes f l d (suc n) h e = rw (each_takes f l d n (omega arith) (λ i k. e i (omega arith)), e n (omega arith)) (sym (take-suc l n d h))
 
-module _ {A : Type 0} (f : ℕ → A) (l : List A) (i : ℕ) where
-  pub each_start : take 0 l ≡ each_below f 0
-  unfolding each_below
-  each_start = refl
+pub each_made : {A : Type 0} (f : ℕ → A) (l : List A) (d : A) (n : ℕ) → length l ≡ n → ((i : ℕ) → i < n → get_or l i d ≡ f i) → l ≡ each_below f n
+each_made f l d n h e = sym (each_takes f l d n (omega arith) (λ i k. sym (e i k)) ∙ take_all n l (omega arith))
 
-  pub each_more : i < length l → take i l ≡ each_below f i → {v : A} → v ≡ f i → take (i + 1) (set l i v) ≡ each_below f (i + 1)
-  unfolding each_below
-  each_more h e {v} g = rw (add-one, take-suc-set l i v h, e, g, each_below)
+-- what calls at each number gave, of a function that they leave as it was
+module _ {F A : Type 0} {g : Mut F (ℕ × Unit {0}) A} (f : ℕ → A) (p : F) (l : List A) (d : A) (same : (i : ℕ) (y : A) (q : F) → Called g p (i, tt) y q → (q ≡ p) × (y ≡ f i)) where
+  gave : (i n : ℕ) (r : F) → r ≡ p → IsFromFnResultFrom g r l i n → (k : ℕ) → i ≤ k → k < i + n → get_or l k d ≡ f k
+  gave i zero r e h k low high = absurd (omega arith)
+  gave i (suc n) r e (q, y, is, called, rest) k low high =
+      let P : F → Type 0 = λ r. Called g r (i, tt) y q in
+      let now = same i y q (subst P e called) in
+      elim (eqb k i) as (λ b. eqb k i ≡ b → get_or l k d ≡ f k) [
+        | true ↦ λ z. let at : k ≡ i = eqb-true k i z in rw at (is.1 d ∙ now.1)
+        | false ↦ λ z. let above = eqb-false k i z in gave (i + 1) n q now.0 rest k (omega arith) (omega arith)
+      ] refl
 
-  each_all : length l ≡ 16 → i ≤ 16 → 16 ≤ i → take i l ≡ each_below f i → l ≡ each_below f 16
-  each_all long low high e = let q : i ≡ 16 = omega arith in sym (take_all i l (omega arith)) ∙ e ∙ rw q
+  pub from_fn_gave : (n : ℕ) → IsFromFnResult g p l n → l ≡ each_below f n
+  from_fn_gave n h = each_made f l d n h.long (λ i k. gave 0 n p refl h.each i (omega arith) (omega arith))
 
--- sixteen inputs, and sixteen numbers
-pub inputs_all : (s : List ℕ) (l : List Input) (i : ℕ) → length l ≡ 16 → i ≤ 16 → 16 ≤ i → take i l ≡ each_below (input_at s) i → l ≡ inputs_in s
-unfolding inputs_in
-inputs_all s = each_all (input_at s)
+-- ---- every number below another
+module _ (f : ℕ → Bool) where
+  all_more : (a n : ℕ) → list_all f (range_with_len a (suc n)) ≡ (list_all f (range_with_len a n) && f (a + n))
+  all_more a zero = let e : a + zero ≡ a = omega arith in rw e (go (f a))
+    where
+      go : (b : Bool) → (b && true) ≡ b
+      go true = refl
+      go false = refl
+  all_more a (suc n) =
+      let e : a + suc n ≡ a + 1 + n = omega arith in
+      rw (e, all_more (a + 1) n, and_assoc (f a) (list_all f (range_with_len (a + 1) n)) (f (a + 1 + n)))
 
-pub numbers_all : (s l : List ℕ) (i : ℕ) → length l ≡ 16 → i ≤ 16 → 16 ≤ i → take i l ≡ each_below (λ j. word_at s (word_bytes * j)) i → l ≡ numbers_in s
-unfolding numbers_in
-numbers_all s = each_all (λ j. word_at s (word_bytes * j))
-
--- ---- the zeros after the inputs' kinds
-module _ (s : List ℕ) where
-  pub zero_taken : (i : ℕ) {b : ℕ} → b ≡ get_or s (input_size * i + 1) 0 → eqb b 0 ≡ input_zeroed s i
-  zero_taken i e = rw e
-
-  module _ (i : ℕ) {b : Bool} (e : b ≡ input_zeroed s i) where
-    pub zeroed_miss : i < 16 → b ≡ false → false ≡ inputs_zeroed s
-    unfolding inputs_zeroed
-    zeroed_miss h n = up_stop (input_zeroed s) i 16 h (sym e ∙ n)
-
-    pub zeroed_more : up_to i (input_zeroed s) ≡ true → b ≡ true → up_to (i + 1) (input_zeroed s) ≡ true
-    zeroed_more h z = up_next (input_zeroed s) i h (sym e ∙ z)
-
-  pub zeroed_all : (i : ℕ) → up_to i (input_zeroed s) ≡ true → i ≤ 16 → 16 ≤ i → true ≡ inputs_zeroed s
-  unfolding inputs_zeroed
-  zeroed_all i = up_end (input_zeroed s) i 16
-
--- ---- a halted mark
-module _ (s : List ℕ) (i : ℕ) {a : ℕ} (ea : a ≡ get_or s i 0) where
-  pub mark_low : a < 2 → {b : ℕ} → b ≡ get_or s (i + 1) 0 → eqb b 0 ≡ mark_formed s i
-  unfolding mark_formed
-  mark_low h eb = rw (← ea, lt-ltb a 2 h, eb)
-
-  pub mark_high : 2 ≤ a → false ≡ mark_formed s i
-  unfolding mark_formed
-  mark_high h = rw (← ea, le-ltb a 2 h)
-
--- ---- a session
-pub session_taken : (s : List ℕ) {xs : List Input} → xs ≡ inputs_in s → {count assumed asserted accepted : ℕ} → count ≡ pair_at s inputs_length → assumed ≡ pair_at s (inputs_length + 2) → asserted ≡ pair_at s (inputs_length + 4)
-    → accepted ≡ pair_at s (inputs_length + 6) → {m : ℕ} → m ≡ get_or s (inputs_length + 8) 0 → record { inputs = xs; count = count; state = record { assumed = assumed; asserted = asserted }; halted = eqb m 1; accepted = accepted } ≡ session_in s
-unfolding session_in
-session_taken s exs ec es et ea em = rw (exs, ec, es, et, ea, em)
-
--- ---- a result of its form
-pub result_taken_lem : (s : List ℕ) {b : Bool} → b ≡ result_formed s → b ≡ true → {assumed asserted value : ℕ} → assumed ≡ pair_at s 0 → asserted ≡ pair_at s 2 → value ≡ pair_at s 4
-    → {m : ℕ} → m ≡ get_or s 6 0 → record { state = record { assumed = assumed; asserted = asserted }; value = value; halted = eqb m 1 } ≡ result_in s
-unfolding result_in when◌then◌else◌
-result_taken_lem s eb h es et ev em = rw (← eb, h, es, et, ev, em)
+  pub all_below : (n : ℕ) → list_all f (range_with_len 0 n) ≡ up_to n f
+  unfolding up_to when◌then◌else◌
+  all_below zero = refl
+  all_below (suc n) = let e : 0 + n ≡ n = omega arith in all_more 0 n ∙ rw (e, all_below n) (go (up_to n f))
+    where
+      go : (b : Bool) → (b && f n) ≡ pick b (f n) false
+      go true = refl
+      go false = refl

@@ -1,23 +1,19 @@
 -- What stands in a slice after bytes are stored one after another. Assumes nothing.
-use mathlib.Core.Path.{◌≡◌, refl, sym, ap, ◌∙◌}
+use mathlib.Core.Path.{◌≡◌, refl, ap, ◌∙◌}
+use mathlib.Core.Bool.{Bool, true, false}
 use mathlib.Core.List.{List, [], ◌∷◌, ◌++◌, append-nil}
 use Prim.Native.Nat.{ℕ, suc, ◌+◌, ◌*◌, ◌/◌, ◌%◌, ◌<◌, ◌≤◌}
 use native.Mathlib.Numerals.{add-one}
 use native.Mathlib.Omega.{arith}
 use lib.ListN.{get_or, set, take, length, length-append, drop_of_length-le}
-use lib.Seq.{sets, sets-eq, set_out, take-suc, take_all, length-take-le}
+use lib.Seq.{sets, sets-eq, take-suc, take_all, length-take-le}
 use Rattle.words.specs.Words.{word_bytes, low_of}
 use Rattle.operators.specs.Operators.{bit_of}
 use Rattle.semantics.specs.declared.Input.{Input}
 use Rattle.semantics.specs.declared.Session.{Session}
 use Rattle.semantics.specs.Numbers.{input_count}
 use Rattle.semantics.specs.Print.{input_size}
-use Rattle.forms.specs.Forms.{inputs_length, session_length, pairs_of, word_bytes_of, words_of, kind_bytes, input_bytes, inputs_bytes, session_bytes}
-use Rattle.forms.specs.Answers.{written_at}
-
--- a store past the end of a list
-pub put_past : (s : List ℕ) (i v : ℕ) → length s ≤ i → s ≡ set s i v
-put_past s i v h = sym (set_out s i v h)
+use Rattle.forms.specs.Forms.{inputs_length, session_length, pairs_of, word_bytes_of, kind_bytes, input_bytes, inputs_bytes, session_bytes}
 
 -- a list of the length of what is stored is that
 pub sets_whole : (s vs : List ℕ) → length s ≡ length vs → sets s 0 vs ≡ vs
@@ -31,41 +27,34 @@ pub sets_then : (vs ws s : List ℕ) (i j : ℕ) → j ≡ i + length vs → set
 sets_then [] ws s i j e = let q : j ≡ i = omega arith in rw q
 sets_then (v ∷ vs) ws s i j e = sets_then vs ws (set s i v) (suc i) j (omega arith)
 
-pub put_pair : (s : List ℕ) (i v : ℕ) {y z : List ℕ} → y ≡ set s i (v % 256) → z ≡ set y (i + 1) (v / 256) → z ≡ sets s i (pairs_of (v ∷ []))
-put_pair s i v ey ez = ez ∙ rw (ey, add-one)
+-- ---- numbers of two bytes each
+pairs_length : (ns : List ℕ) → length (pairs_of ns) ≡ 2 * length ns
+pairs_length [] = refl
+pairs_length (n ∷ ns) = let e = pairs_length ns in omega arith
 
-pub put_four : (s : List ℕ) (i a b c d : ℕ) {w x y z : List ℕ} → w ≡ sets s i (pairs_of (a ∷ [])) → x ≡ sets w (i + 2) (pairs_of (b ∷ [])) → y ≡ sets x (i + 4) (pairs_of (c ∷ []))
-    → z ≡ sets y (i + 6) (pairs_of (d ∷ [])) → z ≡ sets s i (pairs_of (a ∷ b ∷ c ∷ d ∷ []))
-put_four s i a b c d ew ex ey ez =
-    let two : i + 2 ≡ suc (suc i) = omega arith in
-    let four : i + 4 ≡ suc (suc (suc (suc i))) = omega arith in
-    let six : i + 6 ≡ suc (suc (suc (suc (suc (suc i))))) = omega arith in
-    ez ∙ rw (ey, ex, ew, two, four, six)
+pairs_append : (ns ms : List ℕ) → pairs_of (ns ++ ms) ≡ pairs_of ns ++ pairs_of ms
+pairs_append [] ms = refl
+pairs_append (n ∷ ns) ms = ap (λ (l : List ℕ). n % 256 ∷ n / 256 ∷ l) (pairs_append ns ms)
 
--- a word, of its fields
-pub put_word : (s : List ℕ) (i w : ℕ) {l : ℕ} → l ≡ low_of w → {y : List ℕ} → y ≡ sets s i (pairs_of (l ∷ [])) → y ≡ sets s i (word_bytes_of w)
-put_word s i w el ey = ey ∙ rw el
+-- the numbers before i, and number i
+module _ (s₀ ns : List ℕ) (at i : ℕ) where
+  pub pairs_more : i < length ns → {s : List ℕ} → s ≡ sets s₀ at (pairs_of (take i ns)) → {k : ℕ} → k ≡ at → {y : List ℕ} → y ≡ sets s (k + 2 * i) (pairs_of (get_or ns i 0 ∷ []))
+      → y ≡ sets s₀ at (pairs_of (take (i + 1) ns))
+  pairs_more h es ek ey =
+      let long : at + 2 * i ≡ at + length (pairs_of (take i ns)) = rw (pairs_length, length-take-le i ns (omega arith)) refl in
+      let bytes : pairs_of (take (i + 1) ns) ≡ pairs_of (take i ns) ++ pairs_of (get_or ns i 0 ∷ []) = rw (add-one, take-suc ns i 0 h, pairs_append) refl in
+      ey ∙ rw (es, ek, bytes) (sets_then (pairs_of (take i ns)) (pairs_of (get_or ns i 0 ∷ [])) s₀ at (at + 2 * i) long)
+
+  pub pairs_done : length ns ≤ i → {s : List ℕ} → s ≡ sets s₀ at (pairs_of (take i ns)) → s ≡ sets s₀ at (pairs_of ns)
+  pairs_done h es = es ∙ rw (take_all i ns h)
 
 -- a kind as a word, and a word
 kind_word : {k : ℕ} → k < 256 → word_bytes_of k ≡ kind_bytes k
 unfolding low_of
 kind_word {k} h = let p : k % 256 ≡ k = omega arith in let q : k / 256 ≡ 0 = omega arith in rw (p, q)
 
-pub put_input : (s : List ℕ) (i k w : ℕ) {y z : List ℕ} → y ≡ sets s i (word_bytes_of k) → k < 256 → z ≡ sets y (i + word_bytes) (word_bytes_of w) → z ≡ sets s i (kind_bytes k ++ word_bytes_of w)
-put_input s i k w ey h ez = ez ∙ rw (ey ∙ ap (sets s i) (kind_word h)) (sets_then (kind_bytes k) (word_bytes_of w) s i (i + word_bytes) refl)
-
--- ---- answers
-module _ (s : List ℕ) {y z : List ℕ} where
-  pub put_five : (a b c d e : ℕ) → y ≡ sets s 0 (pairs_of (a ∷ b ∷ c ∷ d ∷ [])) → z ≡ sets y 8 (pairs_of (e ∷ []))
-      → ◌≡◌ {A = ℕ × List ℕ} (0, z) (written_at pairs_of (0 ∷ a ∷ b ∷ c ∷ d ∷ e ∷ []) s)
-  put_five a b c d e ey ez = rw (ez, ey)
-
-  pub put_both : (a b : ℕ) → y ≡ sets s 0 (word_bytes_of a) → z ≡ sets y word_bytes (word_bytes_of b) → ◌≡◌ {A = ℕ × List ℕ} (0, z) (written_at words_of (0 ∷ a ∷ b ∷ []) s)
-  put_both a b ey ez = rw (ez, ey)
-
--- an answer whose case is known
-pub put_case : {A : Type 0} (form : List ℕ → List ℕ) (f : A → List ℕ) (s : List ℕ) {p q : A} → p ≡ q → {w : ℕ × List ℕ} → w ≡ written_at form (f q) s → w ≡ written_at form (f p) s
-put_case form f s e g = rw e g
+pub put_input : (s : List ℕ) (i k w : ℕ) {v : ℕ} → v ≡ k → {y z : List ℕ} → y ≡ sets s i (word_bytes_of v) → k < 256 → z ≡ sets y (i + word_bytes) (word_bytes_of w) → z ≡ sets s i (kind_bytes k ++ word_bytes_of w)
+put_input s i k w ev ey h ez = ez ∙ rw (ey ∙ ap (λ (n : ℕ). sets s i (word_bytes_of n)) ev ∙ ap (sets s i) (kind_word h)) (sets_then (kind_bytes k) (word_bytes_of w) s i (i + word_bytes) refl)
 
 -- ---- inputs
 inputs_length_lem : (xs : List Input) → length (inputs_bytes xs) ≡ input_size * length xs
@@ -104,9 +93,17 @@ module _ (x : Session) (long : length (inputs_bytes x.inputs) ≡ inputs_length)
   unfolding session_bytes
   session_length_lem = length-append (inputs_bytes x.inputs) _ ∙ rw long
 
-  pub put_session : (s : List ℕ) {a b c d : List ℕ} → a ≡ sets s 0 (inputs_bytes x.inputs) → b ≡ sets a inputs_length (pairs_of (x.count ∷ x.state.assumed ∷ x.state.asserted ∷ x.accepted ∷ []))
-      → {h : ℕ} → h ≡ bit_of x.halted → c ≡ set b (inputs_length + 8) h → d ≡ set c (inputs_length + 9) 0 → d ≡ sets s 0 (session_bytes x)
+  pub put_session : (s : List ℕ) {a b : List ℕ} → a ≡ sets s 0 (inputs_bytes x.inputs) → {h : ℕ} → h ≡ bit_of x.halted
+      → b ≡ sets a inputs_length (pairs_of (x.count ∷ x.state.assumed ∷ x.state.asserted ∷ x.accepted ∷ h ∷ [])) → b ≡ sets s 0 (session_bytes x)
   unfolding session_bytes
-  put_session s ea eb eh ec ed =
+  put_session s ea eh eb =
       let rest : List ℕ = pairs_of (x.count ∷ x.state.assumed ∷ x.state.asserted ∷ x.accepted ∷ []) ++ (bit_of x.halted ∷ 0 ∷ []) in
-      ed ∙ rw (ec, eb, ea, eh) (sets_then (inputs_bytes x.inputs) rest s 0 inputs_length (rw long))
+      eb ∙ rw (ea, eh, bit_low x.halted, bit_high x.halted) (sets_then (inputs_bytes x.inputs) rest s 0 inputs_length (rw long))
+    where
+      bit_low : (m : Bool) → bit_of m % 256 ≡ bit_of m
+      bit_low true = refl
+      bit_low false = refl
+
+      bit_high : (m : Bool) → bit_of m / 256 ≡ 0
+      bit_high true = refl
+      bit_high false = refl

@@ -11,6 +11,7 @@ ghost use Rattle.forms.specs.Forms.{inputs_length, session_length, inputs_in, in
 ghost use Rattle.forms.specs.Answers.{answer_values, outcome_values, written_at};
 
 use semantics::{Answer, Input, Outcome, Result, Session, State, numbers};
+use std::array;
 use words::Word;
 
 // The bytes of a word.
@@ -31,20 +32,18 @@ pub const ANSWER: usize = 10;
 
 pub const READING: usize = 2 * words::BYTES;
 
-// Where a session's count, S, T, accepted rules and halted mark stand, after the inputs.
-const REST: u8 = INPUTS as u8;
+// Where a session's rest begins, after the inputs, and in it its count, S and T, accepted rules and halted mark.
+const REST: u16 = INPUTS as u16;
 
 const COUNT: u32 = REST as u32;
 
-const ASSUMED: u32 = COUNT + 2;
-
-const ASSERTED: u32 = COUNT + 4;
+const STATE: u16 = REST + 2;
 
 const ACCEPTED: u32 = COUNT + 6;
 
-const HALTED: usize = INPUTS + 8;
+const HALTED: u32 = COUNT + 8;
 
-// What the library answers where it is lent a form of another length.
+// What the library answers where it is lent a form of another length. A number, as the C interface answers with it.
 pub const WRONG_LENGTH: u8 = 255;
 
 // A number that is no term's.
@@ -62,16 +61,16 @@ fn two(s: &[u8], at: u32) -> u16
 pub fn word_at(s: &[u8], at: u16) -> Word
     ensures { result ≡ word_at s.now at }
 {
-    let i = at as u32;
+    let i = u32::from(at);
     words::join(two(s, i), two(s, i + 2))
 }
 
 fn input_in(s: &[u8], i: u8) -> Input
     ensures { result ≡ input_at s.now i }
 {
-    let at = INPUT * (i as u16);
+    let at = INPUT * u16::from(i);
     Input {
-        kind: slices::byte(s, at as usize),
+        kind: slices::byte(s, usize::from(at)),
         value: word_at(s, at + WORD),
     }
 }
@@ -79,101 +78,82 @@ fn input_in(s: &[u8], i: u8) -> Input
 pub fn inputs_in(s: &[u8]) -> [Input; 16]
     ensures { result ≡ inputs_in s.now }
 {
-    let mut inputs = [Input { kind: 0, value: 0 }; 16];
-    let mut i: u8 = 0;
-    while i < 16 {
-        inputs[i as usize] = input_in(s, i);
-        i += 1;
-    }
-    inputs
+    array::from_fn(|i| input_in(s, i as u8))
 }
 
 pub fn numbers_in(s: &[u8]) -> [Word; 16]
     ensures { result ≡ numbers_in s.now }
 {
-    let mut numbers: [Word; 16] = [0; 16];
-    let mut i: u16 = 0;
-    while i < 16 {
-        numbers[i as usize] = word_at(s, WORD * i);
-        i += 1;
-    }
-    numbers
+    array::from_fn(|i| word_at(s, WORD * i as u16))
 }
 
 // Whether what stands between the kind and the value of an input is zero.
 fn input_zeroed(s: &[u8], i: u8) -> bool
     ensures { result ≡ input_zeroed s.now i }
 {
-    let at = (INPUT * (i as u16)) as usize;
-    slices::byte(s, at + 1) == 0
+    slices::byte(s, usize::from(INPUT * u16::from(i)) + 1) == 0
 }
 
 // Whether what stands between kind and value is zero in each of the 16 inputs.
 pub fn inputs_zeroed(s: &[u8]) -> bool
     ensures { result ≡ inputs_zeroed s.now }
 {
-    let mut i: u8 = 0;
-    while i < 16 {
-        if input_zeroed(s, i) {} else {
-            return false;
-        }
-        i += 1;
-    }
-    true
+    (0..16).all(|i| input_zeroed(s, i))
 }
 
+#[tactic(auto, unfolding(crate::specs::Forms::inputs_formed))]
 pub fn inputs_formed(s: &[u8]) -> bool
     ensures { result ≡ inputs_formed s.now }
 {
-    if s.len() == INPUTS {
-        inputs_zeroed(s)
-    } else {
-        false
-    }
+    s.len() == INPUTS && inputs_zeroed(s)
 }
 
 // A mark that is 0 or 1, and a zero after it.
+#[tactic(auto, unfolding(crate::specs::Forms::mark_formed))]
 fn mark_formed(s: &[u8], at: u32) -> bool
     ensures { result ≡ mark_formed s.now at }
 {
     let i = at as usize;
-    if slices::byte(s, i) < 2 {
-        slices::byte(s, i + 1) == 0
-    } else {
-        false
-    }
+    slices::byte(s, i) < 2 && slices::byte(s, i + 1) == 0
 }
 
+#[tactic(auto, unfolding(crate::specs::Forms::session_formed))]
 pub fn session_formed(s: &[u8]) -> bool
     ensures { result ≡ session_formed s.now }
 {
-    if inputs_zeroed(s) {
-        mark_formed(s, HALTED as u32)
-    } else {
-        false
+    inputs_zeroed(s) && mark_formed(s, HALTED)
+}
+
+// What is assumed and what is asserted, by the two numbers at a position.
+fn state_in(s: &[u8], at: u16) -> State
+    ensures { result ≡ record { assumed = pair_at s.now at; asserted = pair_at s.now (at + 2) } }
+{
+    let i = u32::from(at);
+    State {
+        assumed: two(s, i),
+        asserted: two(s, i + 2),
     }
 }
 
+#[tactic(auto, unfolding(crate::specs::Forms::session_in))]
 pub fn session_in(s: &[u8]) -> Session
     ensures { result ≡ session_in s.now }
 {
     Session {
         inputs: inputs_in(s),
         count: two(s, COUNT),
-        state: State {
-            assumed: two(s, ASSUMED),
-            asserted: two(s, ASSERTED),
-        },
-        halted: slices::byte(s, HALTED) == 1,
+        state: state_in(s, STATE),
+        halted: slices::byte(s, HALTED as usize) == 1,
         accepted: two(s, ACCEPTED),
     }
 }
 
 // A broken form is a result that names no term.
+#[tactic(auto, using(notation::proofs::Follow::tests), unfolding(crate::specs::Forms::result_in))]
 pub fn result_in(s: &[u8]) -> Result
     ensures { result ≡ result_in s.now }
 {
-    if mark_formed(s, 6) {} else {
+    if !mark_formed(s, 6) {
         return Result {
             state: State {
                 assumed: NO_TERM,
@@ -184,10 +164,7 @@ pub fn result_in(s: &[u8]) -> Result
         };
     }
     Result {
-        state: State {
-            assumed: two(s, 0),
-            asserted: two(s, 2),
-        },
+        state: state_in(s, 0),
         value: two(s, 4),
         halted: slices::byte(s, 6) == 1,
     }
@@ -206,73 +183,70 @@ fn put_two(s: &mut [u8], at: u32, v: u16)
     ensures { s.new ≡ sets s.old at (pairs_of (v ∷ [])) }
 {
     let i = at as usize;
-    put(s, i, (v % 256) as u8);
-    put(s, i + 1, (v / 256) as u8);
+    let [low, high] = v.to_le_bytes();
+    put(s, i, low);
+    put(s, i + 1, high);
 }
 
 // A word, the low half first.
 pub fn put_word(s: &mut [u8], at: u16, w: Word)
     ensures { s.new ≡ sets s.old at (word_bytes_of w) }
 {
-    put_two(s, at as u32, words::low(w));
+    put_two(s, u32::from(at), words::low(w));
 }
 
-// Four numbers of two bytes each.
-fn put_four(s: &mut [u8], at: u8, a: u16, b: u16, c: u16, d: u16)
-    ensures { s.new ≡ sets s.old at (pairs_of (a ∷ b ∷ c ∷ d ∷ [])) }
+// Five numbers of two bytes each.
+fn put_five(s: &mut [u8], at: u16, numbers: [u16; 5])
+    ensures { s.new ≡ sets s.old at (pairs_of numbers) }
 {
-    let i = at as u32;
-    put_two(s, i, a);
-    put_two(s, i + 2, b);
-    put_two(s, i + 4, c);
-    put_two(s, i + 6, d);
-}
-
-fn bit_of(b: bool) -> u8
-    ensures { result ≡ bit_of b }
-{
-    if b { 1 } else { 0 }
+    for (i, n) in numbers.iter().enumerate() {
+        put_two(s, u32::from(at) + 2 * i as u32, *n);
+    }
 }
 
 fn put_input(s: &mut [u8], i: u8, x: Input)
     ensures { s.new ≡ sets s.old (input_size * i) (input_bytes x) }
 {
-    let at = INPUT * (i as u16);
-    put_word(s, at, x.kind as Word);
+    let at = INPUT * u16::from(i);
+    put_word(s, at, Word::from(x.kind));
     put_word(s, at + WORD, x.value);
 }
 
 fn put_inputs(s: &mut [u8], inputs: [Input; 16])
-    ensures { (length (inputs_bytes inputs) ≡ inputs_length) × (s.new ≡ sets s.old 0 (inputs_bytes inputs)) }
+    ensures long { length (inputs_bytes inputs) ≡ inputs_length }
+    ensures bytes { s.new ≡ sets s.old 0 (inputs_bytes inputs) }
 {
-    let mut i: u8 = 0;
-    while i < 16 {
-        put_input(s, i, inputs[i as usize]);
-        i += 1;
+    for (i, x) in inputs.iter().enumerate() {
+        put_input(s, i as u8, *x);
     }
 }
 
 pub fn put_session(s: &mut [u8], x: Session)
     ensures { (length (session_bytes x) ≡ session_length) × (s.new ≡ sets s.old 0 (session_bytes x)) }
 {
-    let inputs = x.inputs;
-    let state = x.state;
-    put_inputs(s, inputs);
-    put_four(s, REST, x.count, state.assumed, state.asserted, x.accepted);
-    put(s, HALTED, bit_of(x.halted));
-    put(s, HALTED + 1, 0);
+    put_inputs(s, x.inputs);
+    put_five(
+        s,
+        REST,
+        [
+            x.count,
+            x.state.assumed,
+            x.state.asserted,
+            x.accepted,
+            u16::from(x.halted),
+        ],
+    );
 }
 
 // S, T, the value, the halted mark and the depth.
 fn put_result(place: &mut [u8], x: State, value: u16, mark: u16, depth: u16) -> u8
     ensures { (result, place.new) ≡ written_at pairs_of (0 ∷ x.assumed ∷ x.asserted ∷ value ∷ mark ∷ depth ∷ []) place.old }
 {
-    put_four(place, 0, x.assumed, x.asserted, value, mark);
-    put_two(place, 8, depth);
+    put_five(place, 0, [x.assumed, x.asserted, value, mark, depth]);
     0
 }
 
-// What an evaluation answered, at its place; or the refusal.
+// What an evaluation answered, at its place; or the refusal, as the number that the C interface answers with.
 pub fn put_answer(place: &mut [u8], a: Answer) -> u8
     ensures { (result, place.new) ≡ written_at pairs_of (answer_values a) place.old }
 {
@@ -291,17 +265,17 @@ pub fn put_answer(place: &mut [u8], a: Answer) -> u8
 fn put_kind(place: &mut [u8], kind: u8, n: Word) -> u8
     ensures { (result, place.new) ≡ written_at words_of (0 ∷ kind ∷ n ∷ []) place.old }
 {
-    put_word(place, 0, kind as Word);
+    put_word(place, 0, Word::from(kind));
     put_word(place, WORD, n);
     0
 }
 
-// What was read or run, at its place; or the refusal.
+// What was read or run, at its place; or the refusal, as that number.
 pub fn put_outcome(place: &mut [u8], o: Outcome) -> u8
     ensures { (result, place.new) ≡ written_at words_of (outcome_values o) place.old }
 {
     match o {
-        Outcome::Truth(b) => put_kind(place, numbers::TRUTH_TERM, bit_of(b) as Word),
+        Outcome::Truth(b) => put_kind(place, numbers::TRUTH_TERM, Word::from(b)),
         Outcome::Word(w) => put_kind(place, numbers::WORD_TERM, w),
         Outcome::Procedure(i) => put_kind(place, numbers::PROCEDURE_TERM, i),
         Outcome::Abort => put_kind(place, numbers::ABORT_RECORD, 0),

@@ -6,93 +6,76 @@ ghost use Rattle.std.specs.Prelude.{◌≡◌};
 ghost use Rattle.semantics.specs.Factory.{is_not_of, not_of, and_of, or_of, implies_of};
 ghost use Rattle.terms.specs.Gives.{Makes};
 
-use semantics::{Term, numbers};
-use terms::Made;
+use semantics::{Refusal, Term, numbers};
+use terms::Table;
 
 // Whether a term is itself a not.
 fn is_not(t: Term) -> bool
     ensures { result ≡ is_not_of t }
 {
-    if t.kind == numbers::OPERATOR_TERM {
-        t.op == numbers::NEGATION_CODE
-    } else {
-        false
-    }
+    t.kind == numbers::OPERATOR_TERM && t.op == numbers::NEGATION_CODE
 }
 
 // Not of a constant is the other one, not of a not its operand.
-pub fn not_of(table: &mut [u8], count: u16, x: u16) -> Made
-    ensures { Makes (not_of x) table.old count result table.new }
+pub fn not_of(table: &mut Table, x: u16) -> Result<u16, Refusal>
+    ensures { Makes (not_of x) table.old result table.new }
 {
-    let first = terms::known(table, count, x);
-    if first == numbers::KNOWN_FALSE {
-        return terms::present(table, count, numbers::TRUE_NUMBER);
+    match table.known(x) {
+        Some(false) => return Ok(numbers::TRUE_NUMBER),
+        Some(true) => return Ok(numbers::FALSE_NUMBER),
+        None => {}
     }
-    if first == numbers::KNOWN_TRUE {
-        return terms::present(table, count, numbers::FALSE_NUMBER);
-    }
-    let operand = terms::term(table, count, x);
+    let operand = table.term(x);
     if is_not(operand) {
-        return terms::present(table, count, operand.a);
+        return Ok(operand.a);
     }
-    makers::make_operator(table, count, numbers::NEGATION_CODE, x, 0)
+    makers::make_operator(table, numbers::NEGATION_CODE, x, 0)
 }
 
 // And with false is false, with true the other side, of one term twice that term.
-pub fn and_of(table: &mut [u8], count: u16, x: u16, y: u16) -> Made
-    ensures { Makes (and_of x y) table.old count result table.new }
+pub fn and_of(table: &mut Table, x: u16, y: u16) -> Result<u16, Refusal>
+    ensures { Makes (and_of x y) table.old result table.new }
 {
-    let first = terms::known(table, count, x);
-    if first == numbers::KNOWN_FALSE {
-        return terms::present(table, count, numbers::FALSE_NUMBER);
+    match table.known(x) {
+        Some(false) => return Ok(numbers::FALSE_NUMBER),
+        Some(true) => return Ok(y),
+        None => {}
     }
-    if first == numbers::KNOWN_TRUE {
-        return terms::present(table, count, y);
-    }
-    let second = terms::known(table, count, y);
-    if second == numbers::KNOWN_FALSE {
-        return terms::present(table, count, numbers::FALSE_NUMBER);
-    }
-    if second == numbers::KNOWN_TRUE {
-        return terms::present(table, count, x);
+    match table.known(y) {
+        Some(false) => return Ok(numbers::FALSE_NUMBER),
+        Some(true) => return Ok(x),
+        None => {}
     }
     if x == y {
-        return terms::present(table, count, x);
+        return Ok(x);
     }
-    makers::make_operator(table, count, numbers::CONJUNCTION_CODE, x, y)
+    makers::make_operator(table, numbers::CONJUNCTION_CODE, x, y)
 }
 
 // Or with true is true, with false the other side, of one term twice that term.
-pub fn or_of(table: &mut [u8], count: u16, x: u16, y: u16) -> Made
-    ensures { Makes (or_of x y) table.old count result table.new }
+pub fn or_of(table: &mut Table, x: u16, y: u16) -> Result<u16, Refusal>
+    ensures { Makes (or_of x y) table.old result table.new }
 {
-    let first = terms::known(table, count, x);
-    if first == numbers::KNOWN_TRUE {
-        return terms::present(table, count, numbers::TRUE_NUMBER);
+    match table.known(x) {
+        Some(true) => return Ok(numbers::TRUE_NUMBER),
+        Some(false) => return Ok(y),
+        None => {}
     }
-    if first == numbers::KNOWN_FALSE {
-        return terms::present(table, count, y);
-    }
-    let second = terms::known(table, count, y);
-    if second == numbers::KNOWN_TRUE {
-        return terms::present(table, count, numbers::TRUE_NUMBER);
-    }
-    if second == numbers::KNOWN_FALSE {
-        return terms::present(table, count, x);
+    match table.known(y) {
+        Some(true) => return Ok(numbers::TRUE_NUMBER),
+        Some(false) => return Ok(x),
+        None => {}
     }
     if x == y {
-        return terms::present(table, count, x);
+        return Ok(x);
     }
-    makers::make_operator(table, count, numbers::DISJUNCTION_CODE, x, y)
+    makers::make_operator(table, numbers::DISJUNCTION_CODE, x, y)
 }
 
 // The or of not x and y; the not is made even where the or then folds.
-pub fn implies(table: &mut [u8], count: u16, x: u16, y: u16) -> Made
-    ensures { Makes (implies_of x y) table.old count result table.new }
+pub fn implies(table: &mut Table, x: u16, y: u16) -> Result<u16, Refusal>
+    ensures { Makes (implies_of x y) table.old result table.new }
 {
-    let negated = not_of(table, count, x);
-    if negated.refusal != 0 {
-        return negated;
-    }
-    or_of(table, negated.count, negated.number, y)
+    let negated = not_of(table, x)?;
+    or_of(table, negated, y)
 }

@@ -18,33 +18,26 @@ use crate::constants::{
 pub fn slot(i: usize) -> u8
     ensures { result ≡ get_or slots i 0 }
 {
-    if i < SLOTS.len() {
-        return SLOTS[i];
-    }
-    0
+    SLOTS.get(i).copied().unwrap_or(0)
 }
 
 // Where the clauses of a function begin.
 pub fn slot_start(f: usize) -> u8
     ensures { result ≡ get_or slot_starts f 0 }
 {
-    if f < SLOT_STARTS.len() {
-        return SLOT_STARTS[f];
-    }
-    0
+    SLOT_STARTS.get(f).copied().unwrap_or(0)
 }
 
 // A code's row: those from 36 on have the last one's.
+#[tactic(auto, using(notation::proofs::Follow::values), unfolding(crate::specs::Packed::row_of_code))]
 fn row(op: u8) -> usize
     ensures { (result ≡ row_of_code op) × (result < 36) }
 {
-    if op < 36 {
-        return op as usize;
-    }
-    35
+    usize::from(op.min(35))
 }
 
 // How many gates a code has.
+#[tactic(auto, using(crate::proofs::Right::counted))]
 pub fn gate_count(op: u8) -> u16
     ensures { result ≡ length (code_gates op) }
 {
@@ -59,6 +52,7 @@ pub fn helper_count(op: u8) -> u16
 }
 
 // How many clauses they are.
+#[tactic(auto, using(crate::proofs::Right::claused))]
 pub fn clause_count(op: u8) -> u16
     ensures { result ≡ length (clauses (code_gates op)) }
 {
@@ -74,18 +68,16 @@ fn gate_start(op: u8) -> u16
 fn gate_number(i: usize) -> u64
     ensures { result ≡ get_or gate_table i 0 }
 {
-    if i < GATES.len() {
-        return GATES[i];
-    }
-    0
+    GATES.get(i).copied().unwrap_or(0)
 }
 
 // A code's gate with a number; 0 where there is none.
+#[tactic(auto, using(crate::proofs::Right::no_gate))]
 pub fn code_gate(op: u8, i: u16) -> u64
     ensures { result ≡ get_or (map packed (code_gates op)) i 0 }
 {
     if i < gate_count(op) {
-        return gate_number(gate_start(op) as usize + i as usize);
+        return gate_number(usize::from(gate_start(op)) + usize::from(i));
     }
     0
 }

@@ -8,6 +8,7 @@ ghost use Rattle.clauses.specs.Clauses.{truth_variable, goal_clauses};
 ghost use Rattle.dimacs.specs.Text.{clause_text, clauses_text};
 ghost use Rattle.gates.specs.Slots.{as_literal};
 
+use cursor::Cursor;
 use gates::{OWNED, Places};
 use semantics::{Goal, Result, Term};
 use words::{WIDTH, Word};
@@ -25,64 +26,64 @@ const BLANK: Term = Term {
 fn truth(n: u16) -> u64
     ensures { (result ≡ 2 * truth_variable n) × (result < 4294967296) }
 {
-    2 * (OWNED * n as u64 + 2 + 1)
+    2 * (OWNED * u64::from(n) + 2 + 1)
 }
 
 // A clause of one literal.
-fn put_unit(buffer: &mut [u8], at: usize, l: u64) -> usize
-    ensures { Writes (clause_text (as_literal l ∷ [])) buffer.old at buffer.new result }
+fn put_unit(out: &mut Cursor, l: u64)
+    ensures { Writes (clause_text (as_literal l ∷ [])) out.old out.new }
 {
-    let end = gates::put_literal(buffer, at, l);
-    gates::put_end(buffer, end)
+    gates::put_literal(out, l);
+    gates::put_end(out);
 }
 
 // Two clauses of one literal each.
-fn put_units(buffer: &mut [u8], at: usize, l: u64, m: u64) -> usize
-    ensures { Writes (clauses_text ((as_literal l ∷ []) ∷ (as_literal m ∷ []) ∷ [])) buffer.old at buffer.new result }
+fn put_units(out: &mut Cursor, l: u64, m: u64)
+    ensures { Writes (clauses_text ((as_literal l ∷ []) ∷ (as_literal m ∷ []) ∷ [])) out.old out.new }
 {
-    let end = put_unit(buffer, at, l);
-    put_unit(buffer, end, m)
+    put_unit(out, l);
+    put_unit(out, m);
 }
 
 // A clause of two literals.
-fn put_two(buffer: &mut [u8], at: usize, l: u64, m: u64) -> usize
-    ensures { Writes (clause_text (as_literal l ∷ as_literal m ∷ [])) buffer.old at buffer.new result }
+fn put_two(out: &mut Cursor, l: u64, m: u64)
+    ensures { Writes (clause_text (as_literal l ∷ as_literal m ∷ [])) out.old out.new }
 {
-    let end = gates::put_literal(buffer, at, l);
-    put_unit(buffer, end, m)
+    gates::put_literal(out, l);
+    put_unit(out, m);
 }
 
 // T is false, or, of a halt, S is true.
-fn put_errs(buffer: &mut [u8], at: usize, res: Result) -> usize
-    ensures { Writes (clauses_text (goal_clauses res Errs)) buffer.old at buffer.new result }
+fn put_errs(out: &mut Cursor, res: Result)
+    ensures { Writes (clauses_text (goal_clauses res Errs)) out.old out.new }
 {
     let t = truth(res.state.asserted);
     if res.halted {
         let s = truth(res.state.assumed);
-        return put_two(buffer, at, s, t + 1);
+        return put_two(out, s, t + 1);
     }
-    put_unit(buffer, at, t + 1)
+    put_unit(out, t + 1);
 }
 
 // Only S is false.
-fn put_aborts(buffer: &mut [u8], at: usize, res: Result) -> usize
-    ensures { Writes (clauses_text (goal_clauses res Aborts)) buffer.old at buffer.new result }
+fn put_aborts(out: &mut Cursor, res: Result)
+    ensures { Writes (clauses_text (goal_clauses res Aborts)) out.old out.new }
 {
     let s = truth(res.state.assumed);
     let t = truth(res.state.asserted);
-    put_units(buffer, at, s + 1, t)
+    put_units(out, s + 1, t);
 }
 
 // Both are true, and the value is the word; a halt has none.
-fn put_gives(buffer: &mut [u8], at: usize, res: Result, w: Word) -> usize
-    ensures { Writes (clauses_text (goal_clauses res (Gives w))) buffer.old at buffer.new result }
+fn put_gives(out: &mut Cursor, res: Result, w: Word)
+    ensures { Writes (clauses_text (goal_clauses res (Gives w))) out.old out.new }
 {
     if res.halted {
-        return gates::put_end(buffer, at);
+        return gates::put_end(out);
     }
     let s = truth(res.state.assumed);
     let t = truth(res.state.asserted);
-    let end = put_units(buffer, at, s, t);
+    put_units(out, s, t);
     let word = terms::word_term(w);
     let p = Places {
         helpers: 0,
@@ -91,17 +92,17 @@ fn put_gives(buffer: &mut [u8], at: usize, res: Result, w: Word) -> usize
         b: word.b,
         c: word.c,
     };
-    table_clauses::put_term(buffer, end, p, word, BLANK)
+    table_clauses::put_term(out, p, word, BLANK);
 }
 
 // The goal's clauses.
-pub fn put_goal(buffer: &mut [u8], at: usize, res: Result, goal: Goal) -> usize
-    ensures { Writes (clauses_text (goal_clauses res goal)) buffer.old at buffer.new result }
+pub fn put_goal(out: &mut Cursor, res: Result, goal: Goal)
+    ensures { Writes (clauses_text (goal_clauses res goal)) out.old out.new }
 {
     match goal {
-        Goal::Errs => put_errs(buffer, at, res),
-        Goal::Aborts => put_aborts(buffer, at, res),
-        Goal::Gives(w) => put_gives(buffer, at, res, w),
+        Goal::Errs => put_errs(out, res),
+        Goal::Aborts => put_aborts(out, res),
+        Goal::Gives(w) => put_gives(out, res, w),
     }
 }
 
@@ -109,10 +110,7 @@ pub fn put_goal(buffer: &mut [u8], at: usize, res: Result, goal: Goal) -> usize
 fn gives_count(res: Result, w: Word) -> u64
     ensures { (result ≡ length (goal_clauses res (Gives w))) × (result < 256) × (length (clauses_text (goal_clauses res (Gives w))) ≤ 2048) }
 {
-    if res.halted {
-        return 1;
-    }
-    WIDTH as u64 + 4
+    if res.halted { 1 } else { WIDTH as u64 + 4 }
 }
 
 // How many clauses the goal has, and that their text is short.

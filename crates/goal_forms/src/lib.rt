@@ -1,5 +1,5 @@
 // The byte form of a goal, which is that of the reading that it asks for. No function has a `requires`.
-#![tactic(auto)]
+#![tactic(auto, using(notation::proofs::Follow::tests), unfolding(crate::specs::Goals::goal_formed, crate::specs::Goals::goal_in))]
 
 ghost use Rattle.std.specs.Prelude.{◌≡◌};
 ghost use Rattle.goal_forms.specs.Goals.{goal_formed, goal_in};
@@ -20,29 +20,19 @@ const ERROR: Word = numbers::ERROR_RECORD as Word;
 pub fn goal_formed(goal: &[u8]) -> bool
     ensures { result ≡ goal_formed goal.now }
 {
-    let kind = forms::word_at(goal, 0);
-    if kind == WORD {
-        return true;
+    match forms::word_at(goal, 0) {
+        WORD => true,
+        ABORT | ERROR => forms::word_at(goal, NUMBER) == 0,
+        _ => false,
     }
-    let number = forms::word_at(goal, NUMBER);
-    if kind == ABORT {
-        return number == 0;
-    }
-    if kind == ERROR {
-        return number == 0;
-    }
-    false
 }
 
 pub fn goal_in(goal: &[u8]) -> Goal
     ensures { result ≡ goal_in goal.now }
 {
-    let kind = forms::word_at(goal, 0);
-    if kind == ABORT {
-        return Goal::Aborts;
+    match forms::word_at(goal, 0) {
+        ABORT => Goal::Aborts,
+        ERROR => Goal::Errs,
+        _ => Goal::Gives(forms::word_at(goal, NUMBER)),
     }
-    if kind == ERROR {
-        return Goal::Errs;
-    }
-    Goal::Gives(forms::word_at(goal, NUMBER))
 }

@@ -23,7 +23,7 @@ use Rattle.clauses.specs.Clauses.{variable_count, clauses_of_call}
 use Rattle.models.proofs.Exist.{sorted}
 use Rattle.terms.proofs.Tables.{terms_length}
 use Rattle.models.proofs.Theorems.{named_result}
-use Rattle.dimacs.specs.declared.Written.{Written}
+use Rattle.dimacs.specs.Written.{Written}
 use Rattle.dimacs.specs.Text.{clauses_text, header_text, text_for}
 use Rattle.dimacs.specs.Write.{written_of, text_of_call, write_of}
 use Rattle.grammar.specs.Dimacs.{as_said, clauses_from, dimacs_from, dimacs_in, words_in, pieces, is_line_feed}

@@ -7,7 +7,14 @@ use lib.ListN.{length, get_or, take, drop, length-drop, length-append, drop_of_l
 use lib.Seq.{get_or-take, get_or-append-add, length-take-le, take_all}
 use Rattle.semantics.specs.declared.Record.{Record}
 use Rattle.semantics.specs.Records.{record_at, record_bytes}
-use Rattle.interpreter.specs.Promise.{bytes_of, put, StoreKept}
+
+-- the bytes of a record, "fields little-endian"
+unfoldable pub bytes_of : Record → List ℕ
+bytes_of x = record_bytes x.kind x.op x.p x.q x.r
+
+-- the record x at place n
+unfoldable pub put : List ℕ → ℕ → Record → List ℕ
+put s n x = take (8 * n) s ++ (bytes_of x ++ drop 8 (drop (8 * n) s))
 
 halves : (x : ℕ) → x % 256 + 256 * (x / 256) ≡ x
 halves x = omega arith
@@ -19,11 +26,11 @@ module _ (s : List ℕ) (n : ℕ) (x : Record) (room : 8 * n + 8 ≤ length s) w
   head_length : length (take (8 * n) s) ≡ 8 * n
   head_length = length-take-le (8 * n) s (omega arith)
 
-  put_length : length (put s n x) ≡ length s
+  pub put_length : length (put s n x) ≡ length s
   unfolding put bytes_of
   put_length = simp (length-append, head_length, length-drop) (omega arith)
 
-  put_below : (k : ℕ) → k < 8 * n → get_or (put s n x) k 0 ≡ get_or s k 0
+  pub put_below : (k : ℕ) → k < 8 * n → get_or (put s n x) k 0 ≡ get_or s k 0
   unfolding put rest
   put_below k h = get_or-append (take (8 * n) s) (bytes_of x ++ rest) 0 k (rw head_length h) ∙ get_or-take (8 * n) s k 0 h
 
@@ -48,10 +55,6 @@ module _ (s : List ℕ) (n : ℕ) (x : Record) (room : 8 * n + 8 ≤ length s) w
         put_at 7 (8 * n + 6 + 1) (omega arith),
         halves,
       )
-
-  -- the places below
-  pub put_kept : StoreKept s n (put s n x) (n + 1)
-  put_kept = record { grows = omega arith; long = put_length; same = put_below }
 
 -- a record whose bytes are the same in two stores
 pub record_same : (s y : List ℕ) (k i : ℕ) → i < k → ((j : ℕ) → j < 8 * k → get_or y j 0 ≡ get_or s j 0) → record_at y i ≡ record_at s i

@@ -9,15 +9,19 @@ use lib.Dec.{eqb, ltb}
 use lib.ListN.{length, get_or}
 use borrow.Author.Tests.{eqb-true, eqb-false, eq-eqb, ne_eqb, ltb-true, ltb-false, lt-ltb, le-ltb}
 use Rattle.notation.specs.Notation.{pick, if◌equals◌then◌else◌, if◌below◌then◌else◌}
+use Rattle.words.specs.Words.{join_of}
+use Rattle.words.proofs.Words.{join_halves}
 use Rattle.semantics.specs.declared.Record.{Record}
-use Rattle.semantics.specs.Numbers.{procedure_term}
+use Rattle.semantics.specs.Numbers.{truth_term, word_term, procedure_term}
 use Rattle.semantics.specs.Records.{record_at}
-use Rattle.semantics.specs.Run.{Value, procedure, binding, none, placed_or, placed}
+use Rattle.semantics.specs.PlainRun.{places_in}
+use Rattle.semantics.specs.Run.{Value, truth, word, procedure, binding, none, placed_or, placed}
 use Rattle.interpreter.specs.declared.Held.{Held}
-use Rattle.interpreter.specs.Store.{value_of, binding_of, chain_below, chain_in, lower_of, link_of, value_in, shown}
-use Rattle.interpreter.specs.Promise.{put, bound, held_in, held_at, next_at, Found}
-use Rattle.interpreter.proofs.Sorts.{of_procedure, any_bindings}
-use Rattle.interpreter.proofs.Bytes.{put_record, put_kept, record_same}
+use Rattle.interpreter.specs.declared.Held.TheVariants.{Truth, Word, Procedure, Nothing}
+use Rattle.interpreter.specs.Store.{value_of, binding_of, chain_below, chain_in, lower_of, link_of, value_in, shown, bound, held_in}
+use Rattle.interpreter.specs.declared.Run.{Run}
+use Rattle.interpreter.specs.Promise.{held_at, next_at, Found, Bound}
+use Rattle.interpreter.proofs.Bytes.{put, put_length, put_record, put_below, record_same}
 
 -- a lower chain is named as it is
 pub lower_same : (n e : ℕ) → e ≤ n → lower_of n e ≡ e
@@ -35,16 +39,6 @@ lower_low n e = go (ltb n e) refl
     go : (t : Bool) → ltb n e ≡ t → lower_of n e ≤ n
     go true h = rw (lower_none n e (ltb-true _ _ h)) (omega arith)
     go false h = let l : e ≤ n = ltb-false _ _ h in rw (lower_same n e l) l
-
--- the value at a place, by its sort
-module _ (s : List ℕ) (n : ℕ) {x : Record} (r : x ≡ record_at s n) {q : ℕ} {v : Held} (h : v ≡ record { sort = x.kind; first = x.p; second = q }) where
-  pub held_procedure : x.kind ≡ procedure_term → q ≡ lower_of n x.q → v ≡ held_at s n
-  unfolding held_at if◌equals◌then◌else◌
-  held_procedure k e = rw (h, e, ← r, k)
-
-  pub held_other : (x.kind ≡ procedure_term → ⊥) → q ≡ x.q → v ≡ held_at s n
-  unfolding held_at if◌equals◌then◌else◌
-  held_other k e = rw (h, e, ← r, ne_eqb _ _ k)
 
 -- a place past the nearest
 placed_next : (p : ℕ) (v e : Value) → (p ≡ 0 → ⊥) → placed p (binding v e) ≡ placed (p - 1) e
@@ -90,23 +84,27 @@ module _ (s : List ℕ) where
 
   -- the value that place n holds: only a procedure asks for the chain in its second field
   value_there : (n : ℕ) (x : Record) → value_of x.kind x.p x.q (chain_below s n x.q) ≡ value_in s (held_in n x)
-  unfolding value_in link_of if◌equals◌then◌else◌
-  value_there n x = go (eqb x.kind procedure_term) refl
+  unfolding value_of held_in if◌equals◌then◌else◌
+  value_there n x = go (eqb x.kind truth_term) (eqb x.kind word_term) (eqb x.kind procedure_term)
     where
-      go : (t : Bool) → eqb x.kind procedure_term ≡ t → value_of x.kind x.p x.q (chain_below s n x.q)
-          ≡ value_of x.kind x.p (pick t (lower_of n x.q) x.q) (chain_in s (pick t (pick t (lower_of n x.q) x.q) 0))
-      go true e = let h = eqb-true _ _ e in of_procedure _ _ _ _ h ∙ (ap (procedure x.p) (below_lower n x.q) ∙ sym (of_procedure _ _ _ _ h))
-      go false e = any_bindings _ _ _ _ _ (eqb-false _ _ e)
+      go : (a b c : Bool) → pick a (truth (eqb x.p 1)) (pick b (word (join_of x.p x.q)) (pick c (procedure x.p (chain_below s n x.q)) none))
+          ≡ value_in s (pick a (Truth (eqb x.p 1)) (pick b (Word (join_of x.p x.q)) (pick c (Procedure x.p (lower_of n x.q)) Nothing)))
+      go true b c = refl
+      go false true c = refl
+      go false false true = ap (procedure x.p) (below_lower n x.q)
+      go false false false = refl
 
   -- chain n + 1 is the binding at place n, and the chain after it
   pub chain_next : (n : ℕ) → chain_in s (suc n) ≡ binding (value_in s (held_at s n)) (chain_in s (next_at s n))
-  unfolding chain_in value_in held_at next_at
+  unfolding chain_in held_at next_at
   chain_next n = below_here n (suc n) refl ∙ ap₂ binding (value_there n (record_at s n)) (below_lower n (record_at s n).r)
 
   -- a value with no bindings is as it shows
   pub value_shown : (v : Held) → link_of v ≡ 0 → value_in s v ≡ shown v
-  unfolding value_in shown
-  value_shown v h = rw (h, chain_empty)
+  value_shown (Truth b) h = refl
+  value_shown (Word w) h = refl
+  value_shown (Procedure i e) h = rw (h, chain_empty)
+  value_shown Nothing h = refl
 
   -- the next chain is lower
   pub next_low : (n : ℕ) → next_at s n ≤ n
@@ -115,12 +113,14 @@ module _ (s : List ℕ) where
 
   -- the chain of the value there is lower
   held_low : (n : ℕ) → link_of (held_at s n) ≤ n
-  unfolding link_of held_at if◌equals◌then◌else◌
-  held_low n = go (eqb (record_at s n).kind procedure_term)
+  unfolding held_at held_in if◌equals◌then◌else◌
+  held_low n = go (eqb (record_at s n).kind truth_term) (eqb (record_at s n).kind word_term) (eqb (record_at s n).kind procedure_term)
     where
-      go : (t : Bool) → pick t (pick t (lower_of n (record_at s n).q) (record_at s n).q) 0 ≤ n
-      go true = lower_low n (record_at s n).q
-      go false = omega arith
+      go : (a b c : Bool) → link_of (pick a (Truth (eqb (record_at s n).p 1)) (pick b (Word (join_of (record_at s n).p (record_at s n).q)) (pick c (Procedure (record_at s n).p (lower_of n (record_at s n).q)) Nothing))) ≤ n
+      go true b c = omega arith
+      go false true c = omega arith
+      go false false true = lower_low n (record_at s n).q
+      go false false false = omega arith
 
   -- chain n + 1, of a chain that is not empty
   chain_at : (at : ℕ) → 0 < at → chain_in s at ≡ binding (value_in s (held_at s (at - 1))) (chain_in s (next_at s (at - 1)))
@@ -128,28 +128,25 @@ module _ (s : List ℕ) where
 
   -- looking for a place along a chain
   module _ (e p at left : ℕ) (inv : placed left (chain_in s at) ≡ placed p (chain_in s e)) (low : at ≤ e) where
-    pub find_here : 0 < at → left ≡ 0 → {v : Held} → v ≡ held_at s (at - 1) → Found s e p v
+    pub find_here : (at ≡ 0 → ⊥) → left ≡ 0 → {v : Held} → v ≡ held_at s (at - 1) → Found s e p v
     unfolding placed_or
     find_here h z q =
-        let there : value_in s (held_at s (at - 1)) ≡ placed left (chain_in s at) = rw (z, chain_at at h) in
+        let some : 0 < at = omega (arith, h) in
+        let there : value_in s (held_at s (at - 1)) ≡ placed left (chain_in s at) = rw (z, chain_at at some) in
         let l = held_low (at - 1) in
         record { is = rw q (there ∙ inv); low = rw q (omega arith) }
 
-    pub find_next : 0 < at → (left ≡ 0 → ⊥) → {n : ℕ} → n ≡ next_at s (at - 1) → placed (left - 1) (chain_in s n) ≡ placed p (chain_in s e)
-    find_next h z q = rw q (sym (rw (chain_at at h) (placed_next left _ _ z)) ∙ inv)
+    pub find_next : (at ≡ 0 → ⊥) → (left ≡ 0 → ⊥) → {n : ℕ} → n ≡ next_at s (at - 1) → placed (left - 1) (chain_in s n) ≡ placed p (chain_in s e)
+    find_next h z q = let some : 0 < at = omega (arith, h) in rw q (sym (rw (chain_at at some) (placed_next left _ _ z)) ∙ inv)
 
-    pub find_lower : 0 < at → {n : ℕ} → n ≡ next_at s (at - 1) → n ≤ e
+    pub find_lower : (at ≡ 0 → ⊥) → {n : ℕ} → n ≡ next_at s (at - 1) → n ≤ e
     find_lower h q = let l = next_low (at - 1) in rw q (omega arith)
 
-    pub find_end : at ≤ 0 → {v : Held} → v ≡ record { sort = 0; first = 0; second = 0 } → Found s e p v
-    unfolding placed_or value_in link_of value_of if◌equals◌then◌else◌
-    find_end h q =
-        let z : at ≡ 0 = omega arith in
+    pub find_end : at ≡ 0 → Found s e p Nothing
+    unfolding placed_or
+    find_end z =
         let there : none ≡ placed left (chain_in s at) = rw (z, chain_empty) in
-        record { is = rw q (there ∙ inv); low = rw q (omega arith) }
-
-  pub next_less : (at : ℕ) → 0 < at → {n : ℕ} → n ≡ next_at s (at - 1) → n < at
-  next_less at h q = let l = next_low (at - 1) in rw q (omega arith)
+        record { is = there ∙ inv; low = omega arith }
 
 module _ (s y : List ℕ) (k : ℕ) (same : (i : ℕ) → i < 8 * k → get_or y i 0 ≡ get_or s i 0) where
   below_same : (b e : ℕ) → b ≤ k → chain_below y b e ≡ chain_below s b e
@@ -165,8 +162,25 @@ module _ (s y : List ℕ) (k : ℕ) (same : (i : ℕ) → i < 8 * k → get_or y
   chain_same e h = below_same e e h
 
   pub value_same : (v : Held) → link_of v ≤ k → value_in y v ≡ value_in s v
-  unfolding value_in
-  value_same v h = rw (chain_same (link_of v) h)
+  value_same (Truth b) h = refl
+  value_same (Word w) h = refl
+  value_same (Procedure i e) h = rw (chain_same e h)
+  value_same Nothing h = refl
+
+-- a value comes back from its place
+held_bound : (n : ℕ) (v : Held) (next : ℕ) → link_of v ≤ n → held_in n (bound v next) ≡ v
+unfolding held_in if◌equals◌then◌else◌
+held_bound n (Truth true) next h = refl
+held_bound n (Truth false) next h = refl
+held_bound n (Word w) next h = ap Word (join_halves w)
+held_bound n (Procedure i e) next h = ap (Procedure i) (lower_same n e h)
+held_bound n Nothing next h = refl
+
+bound_next : (v : Held) (next : ℕ) → (bound v next).r ≡ next
+bound_next (Truth b) next = refl
+bound_next (Word w) next = refl
+bound_next (Procedure i e) next = refl
+bound_next Nothing next = refl
 
 -- a binding that was put
 module _ (s : List ℕ) (n : ℕ) (v : Held) (e : ℕ) (room : 8 * n + 8 ≤ length s) (l : link_of v ≤ n) (h : e ≤ n) where
@@ -178,19 +192,34 @@ module _ (s : List ℕ) (n : ℕ) (v : Held) (e : ℕ) (room : 8 * n + 8 ≤ len
   there = put_record s n (bound v e) room
 
   held : held_at written n ≡ v
-  unfolding held_at link_of if◌equals◌then◌else◌
-  held = rw there (go (eqb v.sort procedure_term) l)
-    where
-      go : (t : Bool) → pick t v.second 0 ≤ n → record { sort = v.sort; first = v.first; second = pick t (lower_of n v.second) v.second } ≡ v
-      go true b = rw (lower_same n v.second b)
-      go false b = refl
+  unfolding held_at
+  held = rw there (held_bound n v e l)
 
   next : next_at written n ≡ e
   unfolding next_at
-  next = rw (there, lower_same n e h)
+  next = rw (there, bound_next v e, lower_same n e h)
 
   pub chain_put : chain_in (put s n (bound v e)) (n + 1) ≡ binding (value_in s v) (chain_in s e)
   unfolding written
   chain_put =
       rw (add-one n) (chain_next written n ∙ simp (held, next) (
-      simp (value_same s written n (put_kept s n (bound v e) room).same v l, chain_same s written n (put_kept s n (bound v e) room).same e h)))
+      simp (value_same s written n (put_below s n (bound v e) room) v l, chain_same s written n (put_below s n (bound v e) room) e h)))
+
+-- the run then
+pub bound_there : (x y : Run) (v : Held) (next : ℕ) → link_of v ≤ x.taken → next ≤ x.taken → x.taken < places_in (length x.store.now) → y.rule ≡ x.rule
+    → y.store.ghost_name ≡ x.store.ghost_name → y.store.now ≡ put x.store.now x.taken (bound v next) → y.taken ≡ x.taken + 1 → Bound v next x y (x.taken + 1)
+bound_there x y v next l h room er eg es et =
+    let whole : 8 * x.taken + 8 ≤ length x.store.now = omega arith in
+    record {
+      room = room;
+      chain = refl;
+      taken = et;
+      is = rw es (chain_put x.store.now x.taken v next whole l h);
+      kept = record {
+        lent = eg;
+        rule = er;
+        grows = rw et (omega arith);
+        long = rw es (put_length x.store.now x.taken (bound v next) whole);
+        same = λ i k. rw es (put_below x.store.now x.taken (bound v next) whole i k);
+      };
+    }

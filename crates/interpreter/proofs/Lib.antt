@@ -1,4 +1,3 @@
-pub mod Sorts
 pub mod Values
 pub mod Bytes
 pub mod Chains

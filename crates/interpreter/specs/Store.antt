@@ -2,15 +2,20 @@
 -- p and q the word; or p the procedure's record, q the chain of its bindings; r the chain that the binding goes on with. Chain n + 1 begins at
 -- place n; chain 0 is empty. Assumes nothing.
 use Rattle.std.specs.Prelude.{ℕ, zero, suc, List, eqb}
+use Rattle.std.specs.declared.result.Result.{Result}
+use Rattle.std.specs.declared.result.Result.TheVariants.{Ok, Err}
 use Rattle.notation.specs.Notation.{if◌equals◌then◌else◌, if◌below◌then◌else◌}
-use Rattle.words.specs.Words.{join_of}
+use Rattle.words.specs.Words.{join_of, low_of, high_of}
+use Rattle.operators.specs.Operators.{bit_of}
 use Rattle.semantics.specs.declared.Record.{Record}
 use Rattle.semantics.specs.Numbers.{truth_term, word_term, procedure_term}
 use Rattle.semantics.specs.Records.{record_at}
 use Rattle.semantics.specs.Run.{Value, truth, word, procedure, binding, none, gives, aborts, errs, spends}
 use Rattle.semantics.specs.PlainRun.{Stored, ended, full}
 use Rattle.interpreter.specs.declared.Held.{Held}
-use Rattle.interpreter.specs.declared.Ran.{Ran}
+use Rattle.interpreter.specs.declared.Held.TheVariants.{Truth, Word, Procedure, Nothing}
+use Rattle.interpreter.specs.declared.Stop.{Stop}
+use Rattle.interpreter.specs.declared.Stop.TheVariants.{Abort, Error, DepthSpent, StoreFull}
 
 -- a value by its sort and its two fields, and its bindings if it is a procedure; any other sort is no value
 unfoldable pub value_of : ℕ → ℕ → ℕ → Value → Value
@@ -38,47 +43,45 @@ unfoldable pub lower_of : ℕ → ℕ → ℕ
 lower_of n e = if n below e then 0 else e
 
 -- the chain of a procedure's bindings; the empty one of any other value
-unfoldable pub link_of : Held → ℕ
-link_of v = if v.sort equals procedure_term then v.second else 0
+abbrev pub link_of : Held → ℕ
+link_of (Truth b) = 0
+link_of (Word w) = 0
+link_of (Procedure i e) = e
+link_of Nothing = 0
 
 -- a value that the code holds
-unfoldable pub value_in : List ℕ → Held → Value
-value_in s v = value_of v.sort v.first v.second (chain_in s (link_of v))
+abbrev pub value_in : List ℕ → Held → Value
+value_in s (Truth b) = truth b
+value_in s (Word w) = word w
+value_in s (Procedure i e) = procedure i (chain_in s e)
+value_in s Nothing = none
 
 -- the value, but for a procedure's bindings
-unfoldable pub shown : Held → Value
-shown v = value_of v.sort v.first v.second none
+abbrev pub shown : Held → Value
+shown (Truth b) = truth b
+shown (Word w) = word w
+shown (Procedure i e) = procedure i none
+shown Nothing = none
 
--- no value
-abbrev pub nothing : Held
-nothing = record { sort = 0; first = 0; second = 0 }
+-- the record of a place that holds the value above the chain
+abbrev pub bound : Held → ℕ → Record
+bound (Truth b) next = record { kind = truth_term; op = 0; p = bit_of b; q = 0; r = next }
+bound (Word w) next = record { kind = word_term; op = 0; p = low_of w; q = high_of w; r = next }
+bound (Procedure i e) next = record { kind = procedure_term; op = 0; p = i; q = e; r = next }
+bound Nothing next = record { kind = 0; op = 0; p = 0; q = 0; r = next }
 
--- ---- how a run ended, by number
--- with a value
-abbrev pub value_end : ℕ
-value_end = 0
+-- the value in place n's record: the chain of a procedure is one that place n names
+unfoldable pub held_in : ℕ → Record → Held
+held_in n x =
+    if x.kind equals truth_term then Truth (eqb x.p 1) else
+    if x.kind equals word_term then Word (join_of x.p x.q) else
+    if x.kind equals procedure_term then Procedure x.p (lower_of n x.q) else
+    Nothing
 
--- aborted
-abbrev pub abort_end : ℕ
-abort_end = 1
-
--- in error
-abbrev pub error_end : ℕ
-error_end = 2
-
--- its depth is spent
-abbrev pub spent_end : ℕ
-spent_end = 3
-
--- its store is full
-abbrev pub full_end : ℕ
-full_end = 4
-
--- the end of a run that the code answers with, by how its value is read
-unfoldable pub stored_by : (Held → Value) → Ran → Stored
-stored_by read o =
-    if o.how equals value_end then ended (gives (read o.value)) o.taken else
-    if o.how equals abort_end then ended aborts o.taken else
-    if o.how equals error_end then ended errs o.taken else
-    if o.how equals spent_end then ended spends o.taken else
-    full
+-- the end of a run that the code answers with, by how its value is read, with the places taken then
+abbrev pub stored_by : (Held → Value) → Result Held Stop → ℕ → Stored
+stored_by read (Ok v) k = ended (gives (read v)) k
+stored_by read (Err Abort) k = ended aborts k
+stored_by read (Err Error) k = ended errs k
+stored_by read (Err DepthSpent) k = ended spends k
+stored_by read (Err StoreFull) k = full

@@ -5,50 +5,50 @@
 // tests of rule, inputs and allowance come before, elsewhere. No public function has a `requires`.
 #![tactic(auto)]
 
-ghost use Rattle.std.specs.Prelude.{◌≡◌, ◌+◌, ◌*◌, ◌≤◌, length, replicate};
-ghost use Rattle.semantics.specs.Numbers.{procedure_term, input_count};
+ghost use Rattle.std.specs.Prelude.{◌≡◌, ◌≤◌, ℕ, length, replicate, IfOk, IfErr};
 ghost use Rattle.semantics.specs.Records.{datum_word};
-ghost use Rattle.semantics.specs.Run.{truth as «truth-of», word as «word_of», is_false, is_aword, is_aprocedure, word_in, words_run, operation_value, operator_run, datum_value, input_value, inputs_bound};
-ghost use Rattle.semantics.specs.PlainRun.{ended, started_of, stored_outcome, value_given, places_in};
-ghost use Rattle.interpreter.specs.Store.{chain_in, lower_of, link_of, value_in, shown, nothing, value_end, stored_by};
-ghost use Rattle.interpreter.specs.Promise.{put, bound, held_at, next_at, Found, run_in, under_in, let_in, call_in, Runs};
+ghost use Rattle.semantics.specs.Run.{is_false, is_aword, is_aprocedure, operation_value, operator_run, datum_value, input_value, inputs_bound};
+ghost use Rattle.semantics.specs.PlainRun.{ended, started_of, stored_outcome, places_in};
+ghost use Rattle.interpreter.specs.Store.{lower_of, link_of, shown, bound, stored_by};
+ghost use Rattle.interpreter.specs.Promise.{held_at, next_at, Found, Bound, Full, run_in, Runs};
+ghost use Rattle.interpreter.specs.declared.Stop.TheVariants.{StoreFull};
 
 use semantics::numbers::{
-    ABORT_RECORD, CALL_RECORD, CONSTANT_TRUTH, CONSTANT_WORD, DATUM_RECORD, DEPTH_SPENT,
-    FREE_TRUTH, IF_RECORD, INPUT_COUNT, IS_WORD_CODE, LET_RECORD, NO_VALUE, NOT_CODE,
-    OPERATOR_RECORD, PLACE_LIMIT, PROCEDURE_RECORD, PROCEDURE_TERM, STORE_FULL, TRUE_DATUM,
-    TRUTH_TERM, VARIABLE_RECORD, WORD_DATUM, WORD_TERM,
+    ABORT_RECORD, CALL_RECORD, CONSTANT_TRUTH, CONSTANT_WORD, DATUM_RECORD, FREE_TRUTH, IF_RECORD,
+    INPUT_COUNT, IS_WORD_CODE, LET_RECORD, NOT_CODE, OPERATOR_RECORD, PLACE_LIMIT,
+    PROCEDURE_RECORD, PROCEDURE_TERM, TRUE_DATUM, TRUTH_TERM, VARIABLE_RECORD, WORD_DATUM,
+    WORD_TERM,
 };
-use semantics::{Input, Outcome, Record};
+use semantics::{Input, Outcome, Record, Refusal};
 use words::Word;
 
-// A value as a place holds it: its sort is a truth's, a word's or a procedure's (0: no value). A truth lies in the
-// first field and a word in both; a procedure's record lies in the first, and the chain of its bindings in the second.
+// A value as a place holds it.
 #[derive(Clone, Copy)]
-pub struct Held {
-    pub sort: u8,
-    pub first: u16,
-    pub second: u16,
+enum Held {
+    Truth(bool),
+    Word(Word),
+    // A procedure's record, and the chain of its bindings.
+    Procedure { record: u16, bindings: u16 },
+    // What is found past the end of a chain.
+    Nothing,
 }
 
-// How a run of an expression ended, the value if there is one, and the places taken then.
+// Why a run ended without a value.
 #[derive(Clone, Copy)]
-pub struct Ran {
-    pub how: u8,
-    pub value: Held,
-    pub taken: u16,
+enum Stop {
+    Abort,
+    Error,
+    DepthSpent,
+    StoreFull,
 }
 
-// How a run ended, as in specs/Store.antt.
-const VALUE_END: u8 = 0;
-
-const ABORT_END: u8 = 1;
-
-const ERROR_END: u8 = 2;
-
-const SPENT_END: u8 = 3;
-
-const FULL_END: u8 = 4;
+// A run of a rule: its store, and how many of the places there are taken.
+#[derive(Drop)]
+struct Run<'a> {
+    rule: &'a [u8],
+    store: &'a mut [u8],
+    taken: u16,
+}
 
 // Runs a rule that is taken to have passed the tests, on inputs that have. The store is zero on return.
 pub fn run_in_store(
@@ -60,374 +60,290 @@ pub fn run_in_store(
 ) -> Outcome
     ensures { (result ≡ stored_outcome (started_of (places_in (length store.old)) rule.now allowance (inputs_bound inputs numbers))) × (store.new ≡ replicate (length store.old) 0) }
 {
-    let o = start(store, rule, inputs, numbers, allowance);
-    let r = outcome(o);
+    let mut run = Run {
+        rule,
+        store: &mut *store,
+        taken: 0,
+    };
+    let end = run.start(inputs, numbers, allowance);
     slices::wipe(store, 0);
-    r
+    outcome(end)
 }
 
-// Binds the inputs, if there are places for them, and runs record 0.
-fn start(
-    store: &mut [u8],
-    rule: &[u8],
-    inputs: [Input; 16],
-    numbers: [Word; 16],
-    allowance: u16,
-) -> Ran
-    ensures { (stored_by (value_in store.new) result ≡ started_of (places_in (length store.old)) rule.now allowance (inputs_bound inputs numbers)) × (length store.new ≡ length store.old) }
-{
-    if places(store.len()) < INPUT_COUNT {
-        return stopped(FULL_END, 0);
+impl Run<'_> {
+    // Binds the inputs, the last first, and runs record 0.
+    fn start(
+        &mut self,
+        inputs: [Input; 16],
+        numbers: [Word; 16],
+        allowance: u16,
+    ) -> Result<Held, Stop>
+        requires { self.old.taken ≡ 0 }
+        ensures { Runs (started_of (places_in (length self.old.store.now)) self.old.rule.now allowance (inputs_bound inputs numbers)) self.old self.new result }
+    {
+        for k in 0..INPUT_COUNT {
+            let i = usize::from(INPUT_COUNT - 1 - k);
+            self.bind(input_value(inputs[i], numbers[i]), k)?;
+        }
+        self.evaluate(allowance, 0, INPUT_COUNT)
     }
-    bind_inputs(store, inputs, numbers);
-    evaluate(store, rule, allowance, 0, INPUT_COUNT, INPUT_COUNT)
+
+    // Runs record i at a depth, under the bindings of a chain.
+    fn evaluate(&mut self, depth: u16, i: u16, chain: u16) -> Result<Held, Stop>
+        requires { chain ≤ self.old.taken }
+        ensures { Runs (run_in self.old depth i chain) self.old self.new result }
+    {
+        if depth == 0 {
+            return Err(Stop::DepthSpent);
+        }
+        let below = depth - 1;
+        let x = records::record_at(self.rule, i);
+        // A rule's bytes fix the kinds, and `semantics::Record` has them as numbers.
+        match x.kind {
+            DATUM_RECORD => Ok(datum(x)),
+            VARIABLE_RECORD => Ok(self.find(chain, x.p)),
+            PROCEDURE_RECORD => Ok(Held::Procedure {
+                record: i,
+                bindings: chain,
+            }),
+            CALL_RECORD => {
+                let argument = self.find(chain, x.q);
+                match self.find(chain, x.p) {
+                    Held::Procedure { record, bindings } => {
+                        let body = records::record_at(self.rule, record).p;
+                        let under = self.bind(argument, bindings)?;
+                        self.evaluate(below, body, under)
+                    }
+                    _ => Err(Stop::Error),
+                }
+            }
+            OPERATOR_RECORD => operator(x.op, self.find(chain, x.p), self.find(chain, x.q)),
+            LET_RECORD => {
+                let value = self.evaluate(below, x.p, chain)?;
+                let under = self.bind(value, chain)?;
+                self.evaluate(below, x.q, under)
+            }
+            IF_RECORD => {
+                if self.find(chain, x.p).is_false() {
+                    self.evaluate(below, x.r, chain)
+                } else {
+                    self.evaluate(below, x.q, chain)
+                }
+            }
+            ABORT_RECORD => Err(Stop::Abort),
+            _ => Err(Stop::Error),
+        }
+    }
+
+    // Binds a value above a chain, at the next place: the chain that begins there.
+    fn bind(&mut self, v: Held, next: u16) -> Result<u16, Stop>
+        requires value { link_of v ≤ self.old.taken }
+        requires chain { next ≤ self.old.taken }
+        ensures taken { IfOk result (Bound v next self.old self.new) }
+        ensures full { IfErr result (λ stop. (stop ≡ StoreFull) × Full self.old self.new) }
+    {
+        if places(self.store.len()) <= self.taken {
+            return Err(Stop::StoreFull);
+        }
+        let at = 8 * usize::from(self.taken);
+        let x = v.bound(next);
+        fields::write(&mut self.store[at..], x.kind, x.op, x.p, x.q, x.r);
+        self.taken += 1;
+        Ok(self.taken)
+    }
+
+    // The value at a place of a chain; nothing past its end. Inlined, since a call is slower without, 26 against 20 ns.
+    #[inline(always)]
+    fn find(&self, chain: u16, place: u16) -> Held
+        ensures { Found self.now.store.now chain place result }
+    {
+        let mut at = chain;
+        for _ in 0..place {
+            if at == 0 {
+                return Held::Nothing;
+            }
+            at = self.next_at(at - 1);
+        }
+        if at == 0 {
+            return Held::Nothing;
+        }
+        self.held_at(at - 1)
+    }
+
+    // The value bound at place n.
+    #[tactic(auto, using(notation::proofs::Follow::values), unfolding(crate::specs::Promise::held_at, crate::specs::Store::held_in))]
+    fn held_at(&self, n: u16) -> Held
+        ensures { result ≡ held_at self.now.store.now n }
+    {
+        let x = records::record_at(self.store, n);
+        match x.kind {
+            TRUTH_TERM => Held::Truth(x.p == 1),
+            WORD_TERM => Held::Word(words::join(x.p, x.q)),
+            PROCEDURE_TERM => Held::Procedure {
+                record: x.p,
+                bindings: lower(n, x.q),
+            },
+            _ => Held::Nothing,
+        }
+    }
+
+    // The chain after place n.
+    #[tactic(auto, unfolding(crate::specs::Promise::next_at))]
+    fn next_at(&self, n: u16) -> u16
+        ensures { result ≡ next_at self.now.store.now n }
+    {
+        lower(n, records::record_at(self.store, n).r)
+    }
 }
 
-// The inputs at the first 16 places, input 15 at place 0.
-fn bind_inputs(store: &mut [u8], inputs: [Input; 16], numbers: [Word; 16])
-    requires { 8 * input_count ≤ length store.old }
-    ensures { (chain_in store.new input_count ≡ inputs_bound inputs numbers) × (length store.new ≡ length store.old) }
-{
-    let mut k: u16 = 0;
-    while k < INPUT_COUNT {
-        let i = (INPUT_COUNT - 1 - k) as usize;
-        let v = input_value(inputs[i], numbers[i]);
-        put_binding(store, k, v, k);
-        k += 1;
+impl Held {
+    #[tactic(auto, unfolding(semantics::specs::Run::is_false))]
+    fn is_false(self) -> bool
+        ensures { result ≡ is_false (shown self) }
+    {
+        matches!(self, Held::Truth(false))
+    }
+
+    #[tactic(auto, unfolding(semantics::specs::Run::is_aword))]
+    fn is_word(self) -> bool
+        ensures { result ≡ is_aword (shown self) }
+    {
+        matches!(self, Held::Word(_))
+    }
+
+    #[tactic(auto, unfolding(semantics::specs::Run::is_aprocedure))]
+    fn is_procedure(self) -> bool
+        ensures { result ≡ is_aprocedure (shown self) }
+    {
+        matches!(self, Held::Procedure { .. })
+    }
+
+    // The record of a place that holds the value above a chain.
+    fn bound(self, next: u16) -> Record
+        ensures { result ≡ bound self next }
+    {
+        let empty = Record {
+            kind: 0,
+            op: 0,
+            p: 0,
+            q: 0,
+            r: next,
+        };
+        match self {
+            Held::Truth(b) => Record {
+                kind: TRUTH_TERM,
+                p: u16::from(b),
+                ..empty
+            },
+            Held::Word(w) => Record {
+                kind: WORD_TERM,
+                p: words::low(w),
+                q: words::high(w),
+                ..empty
+            },
+            Held::Procedure { record, bindings } => Record {
+                kind: PROCEDURE_TERM,
+                p: record,
+                q: bindings,
+                ..empty
+            },
+            Held::Nothing => empty,
+        }
     }
 }
 
 // What an input is bound to.
+#[tactic(auto, using(notation::proofs::Follow::values), unfolding(semantics::specs::Run::input_value))]
 fn input_value(x: Input, n: Word) -> Held
-    ensures { (shown result ≡ input_value x n) × (link_of result ≡ 0) }
+    ensures value { shown result ≡ input_value x n }
+    ensures plain { link_of result ≡ 0 }
 {
-    let kind = x.kind;
-    match kind {
-        CONSTANT_TRUTH => truth(x.value == 1),
-        CONSTANT_WORD => word_value(x.value),
-        FREE_TRUTH => truth(n == 1),
-        _ => word_value(n),
+    match x.kind {
+        CONSTANT_TRUTH => Held::Truth(x.value == 1),
+        CONSTANT_WORD => Held::Word(x.value),
+        FREE_TRUTH => Held::Truth(n == 1),
+        _ => Held::Word(n),
     }
-}
-
-// Runs record i at a depth, under the bindings of the chain e, with k places taken.
-#[cycle(apply_bind_evaluate_run_under)]
-fn evaluate(store: &mut [u8], rule: &[u8], depth: u16, i: u16, e: u16, k: u16) -> Ran
-    requires { e ≤ k }
-    ensures { Runs (run_in store.old rule.now depth i e k) store.old k result store.new }
-{
-    if depth == 0 {
-        return stopped(SPENT_END, k);
-    }
-    let d = depth - 1;
-    let x = records::record_at(rule, i);
-    let kind = x.kind;
-    match kind {
-        DATUM_RECORD => given(datum(x), k),
-        VARIABLE_RECORD => given(find(store, e, x.p), k),
-        PROCEDURE_RECORD => given(closure(i, e), k),
-        CALL_RECORD => {
-            let f = find(store, e, x.p);
-            let v = find(store, e, x.q);
-            apply(store, rule, d, f, v, k)
-        }
-        OPERATOR_RECORD => {
-            let a = find(store, e, x.p);
-            let b = find(store, e, x.q);
-            operator(x.op, a, b, k)
-        }
-        LET_RECORD => bind(store, rule, d, x.p, x.q, e, k),
-        IF_RECORD => {
-            if is_false(find(store, e, x.p)) {
-                evaluate(store, rule, d, x.r, e, k)
-            } else {
-                evaluate(store, rule, d, x.q, e, k)
-            }
-        }
-        ABORT_RECORD => stopped(ABORT_END, k),
-        _ => stopped(ERROR_END, k),
-    }
-}
-
-// A let: record p, then record q with its value bound.
-#[cycle(apply_bind_evaluate_run_under)]
-fn bind(store: &mut [u8], rule: &[u8], d: u16, p: u16, q: u16, e: u16, k: u16) -> Ran
-    requires { e ≤ k }
-    ensures { Runs (let_in store.old rule.now d p q e k) store.old k result store.new }
-{
-    let o = evaluate(store, rule, d, p, e, k);
-    if o.how != VALUE_END {
-        return o;
-    }
-    let v = o.value;
-    run_under(store, rule, d, q, v, e, o.taken)
-}
-
-// A call of f with the argument v: an error if f is no procedure.
-#[cycle(apply_bind_evaluate_run_under)]
-fn apply(store: &mut [u8], rule: &[u8], d: u16, f: Held, v: Held, k: u16) -> Ran
-    requires { (link_of f ≤ k) × (link_of v ≤ k) }
-    ensures { Runs (call_in store.old rule.now d f v k) store.old k result store.new }
-{
-    if f.sort != PROCEDURE_TERM {
-        return stopped(ERROR_END, k);
-    }
-    let x = records::record_at(rule, f.first);
-    run_under(store, rule, d, x.p, v, link(f), k)
-}
-
-// Record i with v bound above the chain e, which takes a place.
-#[cycle(apply_bind_evaluate_run_under)]
-fn run_under(store: &mut [u8], rule: &[u8], d: u16, i: u16, v: Held, e: u16, k: u16) -> Ran
-    requires { (link_of v ≤ k) × (e ≤ k) }
-    ensures { Runs (under_in store.old rule.now d i v e k) store.old k result store.new }
-{
-    if k < places(store.len()) {
-        put_binding(store, k, v, e);
-        return evaluate(store, rule, d, i, k + 1, k + 1);
-    }
-    stopped(FULL_END, k)
-}
-
-// An operator of values: on what is no word the codes 1 to 12 are an error.
-fn operator(op: u8, x: Held, y: Held, k: u16) -> Ran
-    ensures { (stored_by shown result ≡ ended (operator_run op (shown x) (shown y)) k) × ((link_of result.value ≡ 0) × (result.taken ≡ k)) }
-{
-    if op < NOT_CODE {
-        if on_words(op, x, y) {
-            return given(operation(op, word_in(x), word_in(y)), k);
-        }
-        return stopped(ERROR_END, k);
-    }
-    match op {
-        NOT_CODE => given(truth(is_false(x)), k),
-        IS_WORD_CODE => given(truth(is_word(x)), k),
-        _ => given(truth(is_procedure(x)), k),
-    }
-}
-
-// Whether a code from 1 to 12 has the words that it needs.
-fn on_words(op: u8, x: Held, y: Held) -> bool
-    ensures { result ≡ words_run op (shown x) (shown y) }
-{
-    if is_word(x) {
-        if operators::operands(op) == 1 {
-            return true;
-        }
-        return is_word(y);
-    }
-    false
-}
-
-// What a code from 1 to 12 gives on words.
-fn operation(op: u8, x: Word, y: Word) -> Held
-    ensures { (shown result ≡ operation_value op x y) × (link_of result ≡ 0) }
-{
-    let n = operators::operate(op, x, y);
-    if operators::gives_truth(op) {
-        return truth(n == 1);
-    }
-    word_value(n)
 }
 
 // A datum: a word, or a truth.
+#[tactic(auto, using(notation::proofs::Follow::values), unfolding(semantics::specs::Run::datum_value))]
 fn datum(x: Record) -> Held
-    ensures { (shown result ≡ datum_value x.op (datum_word x)) × (link_of result ≡ 0) }
+    ensures value { shown result ≡ datum_value x.op (datum_word x) }
+    ensures plain { link_of result ≡ 0 }
 {
     if x.op == WORD_DATUM {
-        return word_value(fields::datum_word(x));
-    }
-    truth(x.op == TRUE_DATUM)
-}
-
-fn is_false(v: Held) -> bool
-    ensures { result ≡ is_false (shown v) }
-{
-    if v.sort == TRUTH_TERM {
-        v.first != 1
+        Held::Word(fields::datum_word(x))
     } else {
-        false
+        Held::Truth(x.op == TRUE_DATUM)
     }
 }
 
-fn is_word(v: Held) -> bool
-    ensures { result ≡ is_aword (shown v) }
+// An operator of values: on what is no word the codes 1 to 12 are an error.
+fn operator(op: u8, x: Held, y: Held) -> Result<Held, Stop>
+    ensures end { (taken : ℕ) → stored_by shown result taken ≡ ended (operator_run op (shown x) (shown y)) taken }
+    ensures plain { IfOk result (λ v. link_of v ≡ 0) }
 {
-    v.sort == WORD_TERM
+    if op < NOT_CODE {
+        let Held::Word(a) = x else {
+            return Err(Stop::Error);
+        };
+        return match y {
+            Held::Word(b) => Ok(operation(op, a, b)),
+            _ if operators::operands(op) == 1 => Ok(operation(op, a, 0)),
+            _ => Err(Stop::Error),
+        };
+    }
+    Ok(Held::Truth(match op {
+        NOT_CODE => x.is_false(),
+        IS_WORD_CODE => x.is_word(),
+        _ => x.is_procedure(),
+    }))
 }
 
-fn is_procedure(v: Held) -> bool
-    ensures { result ≡ is_aprocedure (shown v) }
+// What a code from 1 to 12 gives on words.
+#[tactic(auto, using(notation::proofs::Follow::values), unfolding(semantics::specs::Run::operation_value))]
+fn operation(op: u8, x: Word, y: Word) -> Held
+    ensures value { shown result ≡ operation_value op x y }
+    ensures plain { link_of result ≡ 0 }
 {
-    v.sort == PROCEDURE_TERM
-}
-
-// The word; 0 of what is none.
-fn word_in(v: Held) -> Word
-    ensures { result ≡ word_in (shown v) }
-{
-    if v.sort == WORD_TERM {
-        words::join(v.first, v.second)
+    let n = operators::operate(op, x, y);
+    if operators::gives_truth(op) {
+        Held::Truth(n == 1)
     } else {
-        0
+        Held::Word(n)
     }
 }
 
-// The chain of a procedure's bindings; the empty one of any other value.
-fn link(v: Held) -> u16
-    ensures { result ≡ link_of v }
+// What a run answers. A rule that passed the tests gives a value, and no operation answers the number of none.
+#[tactic(auto, unfolding(semantics::specs::PlainRun::stored_outcome, semantics::specs::PlainRun::ended_outcome, semantics::specs::PlainRun::value_given))]
+fn outcome(end: Result<Held, Stop>) -> Outcome
+    ensures { (taken : ℕ) → result ≡ stored_outcome (stored_by shown end taken) }
 {
-    if v.sort == PROCEDURE_TERM {
-        v.second
-    } else {
-        0
+    match end {
+        Ok(Held::Truth(b)) => Outcome::Truth(b),
+        Ok(Held::Word(w)) => Outcome::Word(w),
+        // A cast, since how wide a word is stands in `words` alone.
+        Ok(Held::Procedure { record, .. }) => Outcome::Procedure(record as Word),
+        Ok(Held::Nothing) => Outcome::Refused(Refusal::NoValue.number()),
+        Err(Stop::Abort) => Outcome::Abort,
+        Err(Stop::Error) => Outcome::Error,
+        Err(Stop::DepthSpent) => Outcome::Refused(Refusal::DepthSpent.number()),
+        Err(Stop::StoreFull) => Outcome::Refused(Refusal::StoreFull.number()),
     }
-}
-
-fn truth(b: bool) -> Held
-    ensures { (shown result ≡ «truth-of» b) × (link_of result ≡ 0) }
-{
-    if b {
-        hold(TRUTH_TERM, 1, 0)
-    } else {
-        hold(TRUTH_TERM, 0, 0)
-    }
-}
-
-fn word_value(w: Word) -> Held
-    ensures { (shown result ≡ «word_of» w) × (link_of result ≡ 0) }
-{
-    hold(WORD_TERM, words::low(w), words::high(w))
-}
-
-// The procedure of record i under the chain e.
-fn closure(i: u16, e: u16) -> Held
-    ensures { result ≡ record { sort = procedure_term; first = i; second = e } }
-{
-    hold(PROCEDURE_TERM, i, e)
-}
-
-// A value of these fields.
-fn hold(sort: u8, first: u16, second: u16) -> Held
-    ensures { result ≡ record { sort = sort; first = first; second = second } }
-{
-    Held {
-        sort: sort,
-        first: first,
-        second: second,
-    }
-}
-
-fn given(v: Held, k: u16) -> Ran
-    ensures { result ≡ record { how = value_end; value = v; taken = k } }
-{
-    Ran {
-        how: VALUE_END,
-        value: v,
-        taken: k,
-    }
-}
-
-// A run that ended without a value.
-fn stopped(how: u8, k: u16) -> Ran
-    ensures { result ≡ record { how = how; value = nothing; taken = k } }
-{
-    Ran {
-        how: how,
-        value: hold(0, 0, 0),
-        taken: k,
-    }
-}
-
-// What a run answers.
-fn outcome(o: Ran) -> Outcome
-    ensures { result ≡ stored_outcome (stored_by shown o) }
-{
-    let how = o.how;
-    match how {
-        VALUE_END => {
-            let v = o.value;
-            value_outcome(v)
-        }
-        ABORT_END => Outcome::Abort,
-        ERROR_END => Outcome::Error,
-        SPENT_END => Outcome::Refused(DEPTH_SPENT),
-        _ => Outcome::Refused(STORE_FULL),
-    }
-}
-
-// A value. A rule that passed the tests gives no other, and no operation answers the last number.
-fn value_outcome(v: Held) -> Outcome
-    ensures { result ≡ value_given (shown v) }
-{
-    let sort = v.sort;
-    match sort {
-        TRUTH_TERM => Outcome::Truth(v.first == 1),
-        WORD_TERM => Outcome::Word(word_in(v)),
-        PROCEDURE_TERM => Outcome::Procedure(v.first as Word),
-        _ => Outcome::Refused(NO_VALUE),
-    }
-}
-
-// The value at place p of the chain e; no value past its end.
-fn find(store: &[u8], e: u16, p: u16) -> Held
-    ensures { Found store.now e p result }
-{
-    let mut at = e;
-    let mut left = p;
-    while 0 < at {
-        if left == 0 {
-            return held_at(store, at - 1);
-        }
-        at = next_at(store, at - 1);
-        left -= 1;
-    }
-    hold(0, 0, 0)
-}
-
-// The value bound at place n. Only a procedure has a chain in its second field.
-fn held_at(store: &[u8], n: u16) -> Held
-    ensures { result ≡ held_at store.now n }
-{
-    let x = records::record_at(store, n);
-    if x.kind == PROCEDURE_TERM {
-        return hold(x.kind, x.p, lower(n, x.q));
-    }
-    hold(x.kind, x.p, x.q)
-}
-
-// The chain after place n.
-fn next_at(store: &[u8], n: u16) -> u16
-    ensures { result ≡ next_at store.now n }
-{
-    let x = records::record_at(store, n);
-    lower(n, x.r)
 }
 
 // A chain that place n names: a higher one is taken for the empty one, so that every chain ends.
+#[tactic(auto, using(notation::proofs::Follow::values), unfolding(crate::specs::Store::lower_of))]
 fn lower(n: u16, e: u16) -> u16
     ensures { result ≡ lower_of n e }
 {
     if n < e { 0 } else { e }
 }
 
-// Writes a binding at place n.
-fn put_binding(store: &mut [u8], n: u16, v: Held, next: u16)
-    requires { 8 * n + 8 ≤ length store.old }
-    ensures { store.new ≡ put store.old n (bound v next) }
-{
-    let at = 8 * (n as usize);
-    fields::write(&mut store[at..], v.sort, 0, v.first, v.second, next);
-}
-
 // How many places a store of so many bytes has.
 fn places(bytes: usize) -> u16
     ensures { result ≡ places_in bytes }
 {
-    let n = bytes / 8;
-    if n < (PLACE_LIMIT as usize) {
-        n as u16
-    } else {
-        PLACE_LIMIT
-    }
+    (bytes / 8).min(usize::from(PLACE_LIMIT)) as u16
 }

@@ -20,7 +20,7 @@ pub const OUTPUT: usize = LINE * (numbers::TERM_LIMIT as usize + 1);
 pub fn put_refusal(out: &mut [u8; OUTPUT], k: u8) -> usize
     ensures { Writes (line_text (refusal k)) out.new result }
 {
-    text::put_line(out, 0, b"refused ", &[k as u16])
+    text::put_line(out, 0, b"refused ", &[u16::from(k)])
 }
 
 // A term's line: its number and its fields.
@@ -28,7 +28,11 @@ fn put_term(out: &mut [u8], at: usize, i: u16, t: Term) -> usize
     requires { at + line_bytes ≤ length out.old }
     ensures { Appends line_bytes (line_text (term_line i t)) out.old at out.new result }
 {
-    text::put_numbers(out, at, &[i, t.kind as u16, t.op as u16, t.a, t.b, t.c])
+    text::put_numbers(
+        out,
+        at,
+        &[i, u16::from(t.kind), u16::from(t.op), t.a, t.b, t.c],
+    )
 }
 
 // The lines of the terms from one number up to another.

@@ -23,35 +23,34 @@ pub fn read_under(
     work: &mut [Place],
 ) -> Outcome
     requires { Under table.now count res work.old }
-    ensures fact_1 { result ≡ read_in (readings numbers (terms_in table.now count)) res }
-    ensures fact_2 { Under table.now count res work.new }
+    ensures outcome { result ≡ read_in (readings numbers (terms_in table.now count)) res }
+    ensures still_marked { Under table.now count res work.new }
 {
     read_marked(table, count, numbers, work);
-    reader::outcome_held(&work[0..count as usize], res)
+    reader::outcome_held(&work[..count as usize], res)
 }
 
-// What each marked term reads as, from the first on: it is read from lower ones, which are marked too.
+// What each marked term reads as, from the first on: it is read from lower ones, which are marked too. By its number, since
+// the places below a term are read while its own is written.
 fn read_marked(table: &[u8], count: u16, numbers: [Word; 16], work: &mut [Place])
-    requires fact_1 { count ≤ length work.old }
-    requires fact_2 { Closed (terms_in table.now count) (mark_in work.old) }
+    requires enough { count ≤ length work.old }
+    requires closed { Closed (terms_in table.now count) (mark_in work.old) }
     ensures { ReadsMarked numbers table.now count work.old work.new }
 {
-    let mut i: u16 = 0;
-    while i < count {
+    for i in 0..count {
         let at = i as usize;
         if under::is_marked(work[at]) {
             let t = records::term_at(table, i);
-            let v = keep(reader::term_reading(t, numbers, &work[0..at]));
-            work[at] = v;
+            let v = reader::term_reading(t, numbers, &work[..at]);
+            work[at] = keep(v);
         }
-        i += 1;
     }
 }
 
 // A reading as it is kept in a marked place.
 pub fn keep(v: Reading) -> Place
-    ensures fact_1 { unpacked_of result ≡ v }
-    ensures fact_2 { mark_place ≤ result }
+    ensures reading { unpacked_of result ≡ v }
+    ensures marked { mark_place ≤ result }
 {
-    under::MARK + WORDS * (v.sort as Place) + (v.number as Place)
+    under::MARK + WORDS * Place::from(v.sort) + Place::from(v.number)
 }

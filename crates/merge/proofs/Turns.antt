@@ -1,36 +1,31 @@
--- Where a pass over a lent list stands: i turns are taken, and what is carried is what they come to. Assumes nothing.
-use mathlib.Core.Path.{◌≡◌, sym, ◌∙◌, ap, subst}
-use Prim.Native.Nat.{ℕ, ◌+◌, ◌<◌, ◌≤◌}
-use native.Mathlib.Numerals.{add-one}
-use mathlib.Core.List.{List, [], ◌∷◌, ◌++◌}
-use lib.ListN.{length, get_or, take}
-use lib.Seq.{take-suc, take_all}
-use Rattle.semantics.specs.declared.Branch.{Branch}
+-- A turn of a loop whose turns are the steps of a list: what is left of the list leads on from the start. Assumes nothing.
+use mathlib.Core.Path.{◌≡◌, refl, subst}
+use mathlib.Core.List.{List, [], ◌∷◌}
+use Rattle.std.specs.Prelude.{IsErr, IsErrAnd}
+use Rattle.std.proofs.lemmas.Result.{err_from_is_err_and}
+use Rattle.std.specs.declared.result.Result.{Result}
+use Rattle.std.specs.declared.result.Result.TheVariants.{Ok, Err}
+use Rattle.semantics.specs.declared.refusal.Refusal.{Refusal}
 use Rattle.semantics.specs.Steps.{Make, each}
-use Rattle.branches.specs.declared.Carried.{Carried}
-use Rattle.branches.specs.Branches.{no_branch}
-use Rattle.branches.specs.Passes.{Carry, pass_step, met, place_of, pass_of, Carries}
-use Rattle.branches.proofs.Onward.{no_turn, one_turn}
-use Rattle.merge.proofs.Passes.{met_length, met_at}
+use Rattle.terms.specs.Gives.{Gives, Leads}
+use Rattle.terms.specs.declared.table.Table.{Table}
+use Rattle.terms.proofs.Gives.{each_end, each_stop, each_next}
 
--- the first i turns
-abbrev pub turns : ℕ → List Branch → ℕ → Carry → Make Carry
-turns pass bs i x = each (pass_step pass) x (take i (met pass bs))
+module _ {A B : Type 0} (f : A → B → Make A) {m : Make A} {s y : Table} where
+  lead : (p : A) (l k : List B) → l ≡ k → Leads m s 0 (each f p l) y → Leads m s 0 (each f p k) y
+  lead p l k e inv = subst (λ (k : List B). Leads m s 0 (each f p k) y) e inv
 
-module _ (pass : ℕ) (bs : List Branch) (m : Carried) (xs : List ℕ) where
-  pub turns_start : Carries m xs (turns pass bs 0) m xs
-  turns_start = no_turn (pass_step pass) m.refusal (m.state, m.folded) xs m.count
+  module _ {p : A} (l : List B) (inv : Leads m s 0 (each f p l) y) where
+    pub turn_end : l ≡ [] → Gives m s 0 (Ok p) y
+    turn_end e = each_end f (lead p l [] e inv)
 
-  -- the turn at j, the place of turn i
-  pub turns_next : (i : ℕ) → i < length bs → (j : ℕ) → j ≡ place_of pass i (length bs) → (a : Carried) (ys : List ℕ) → Carries m xs (turns pass bs i) a ys
-      → (r : Carried) (zs : List ℕ) → Carries a ys (λ x. pass_step pass x (get_or bs j no_branch)) r zs → Carries m xs (turns pass bs (i + 1)) r zs
-  turns_next i l j ej a ys g r zs k =
-      subst (λ (bs : List Branch). Carries m xs (λ x. each (pass_step pass) x bs) r zs) (sym grows)
-      (one_turn (pass_step pass) m.refusal (m.state, m.folded) xs m.count (take i (met pass bs)) (get_or (met pass bs) i no_branch) g (subst (λ (b : Branch). Carries a ys (λ x. pass_step pass x b) r zs) (ap (λ (k : ℕ). get_or bs k no_branch) ej ∙ met_at pass bs i l) k))
-    where
-      grows : take (i + 1) (met pass bs) ≡ take i (met pass bs) ++ (get_or (met pass bs) i no_branch ∷ [])
-      grows = ap (λ (k : ℕ). take k (met pass bs)) (add-one i) ∙ take-suc (met pass bs) i no_branch (rw (met_length pass bs) l)
+    module _ (x : B) (k : List B) (e : l ≡ x ∷ k) {q : Result A Refusal} {w : Table} (g : Gives (f p x) y 0 q w) where
+      pub turn_stop : (j : Refusal) → q ≡ Err j → Gives m s 0 (Err j) w
+      turn_stop j i = each_stop f x k (lead p l (x ∷ k) e inv) g i
 
-  pub turns_end : (i : ℕ) → length bs ≤ i → (a : Carried) (ys : List ℕ) → Carries m xs (turns pass bs i) a ys → Carries m xs (pass_of pass bs) a ys
-  unfolding pass_of
-  turns_end i l a ys g = subst (λ (bs : List Branch). Carries m xs (λ x. each (pass_step pass) x bs) a ys) (take_all i (met pass bs) (rw (met_length pass bs) l)) g
+      pub turn_next : {a : A} → q ≡ Ok a → Leads m s 0 (each f a k) w
+      turn_next i = each_next f x k (lead p l (x ∷ k) e inv) g i refl
+
+      -- with the refusal that a `?` handed on
+      pub turn_stopped : (j : Refusal) → q ≡ Err j → (r : Result A Refusal) → IsErr r × IsErrAnd r (λ k. k ≡ j) → Gives m s 0 r w
+      turn_stopped j i r h = let u = err_from_is_err_and r h.1 in rw (u.1, u.2) (turn_stop j i)

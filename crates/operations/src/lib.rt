@@ -2,53 +2,58 @@
 // the work. The work list and the store are zero on every return. No public function has a `requires`.
 #![tactic(auto)]
 
-ghost use Rattle.std.specs.Prelude.{◌≡◌, length, replicate};
+ghost use Rattle.std.specs.Prelude.{◌≡◌, ℕ, length, OnOk, IfErr};
+ghost use Rattle.semantics.specs.Refusals.{number_of};
 ghost use Rattle.semantics.specs.declared.Outcome.TheVariants.{Refused};
-ghost use Rattle.semantics.specs.Reading.{read_of};
-ghost use Rattle.semantics.specs.PlainRun.{run_plainly_of};
+ghost use Rattle.semantics.specs.Reading.{read_outcome, read_of};
+ghost use Rattle.semantics.specs.Run.{inputs_bound};
+ghost use Rattle.semantics.specs.PlainRun.{stored_outcome, started_of, places_in, run_outcome, run_plainly_of};
+ghost use Rattle.samples.specs.Answers.{outcome_in};
 
 use reader::Place;
-use semantics::{Input, Outcome, Result, Session, numbers};
+use semantics::{Input, Outcome, Refusal, Session};
 use words::Word;
-
-// A refused reading.
-fn unread(refusal: u8, work: &mut [Place]) -> Outcome
-    ensures { (result ≡ Refused refusal) × (work.new ≡ replicate (length work.old) 0) }
-{
-    reader::wipe(work);
-    Outcome::Refused(refusal)
-}
 
 // What a result reads as under sixteen numbers; or a refusal, by 3, 13, 14 or 15.
 pub fn read(
     session: Session,
     table: &[u8],
     numbers: [Word; 16],
-    res: Result,
+    res: semantics::Result,
     work: &mut [Place],
 ) -> Outcome
     ensures { (result, work.new) ≡ read_of session table.now numbers res work.old }
 {
-    if fitting::fits(session, table) {} else {
-        return unread(numbers::MISFIT, work);
+    match test_reading(session, table, numbers, res) {
+        Ok(()) => samples::read_result(table, session.count, numbers, res, work),
+        Err(refusal) => {
+            reader::wipe(work);
+            Outcome::Refused(refusal.number())
+        }
     }
-    let inputs = session.inputs;
-    if reading_tests::numbers_taken(inputs, numbers) {} else {
-        return unread(numbers::BAD_NUMBER, work);
-    }
-    if reading_tests::result_taken(table, session.count, res) {} else {
-        return unread(numbers::BAD_RESULT, work);
-    }
-    samples::read_result(table, session.count, numbers, res, work)
 }
 
-// A refused run.
-fn unrun(refusal: u8, store: &mut [u8]) -> Outcome
-    ensures fact_1 { result ≡ Refused refusal }
-    ensures fact_2 { store.new ≡ replicate (length store.old) 0 }
+// The tests before a reading, but for the length of the work list.
+#[tactic(auto, using(crate::proofs::Answers::reading_tests))]
+fn test_reading(
+    session: Session,
+    table: &[u8],
+    numbers: [Word; 16],
+    res: semantics::Result,
+) -> Result<(), Refusal>
+    ensures taken { OnOk result ((places : ℕ) → read_outcome session table.now numbers res places ≡ outcome_in table.now session.count numbers res places) }
+    ensures refused { IfErr result (λ refusal. (places : ℕ) → read_outcome session table.now numbers res places ≡ Refused (number_of refusal)) }
 {
-    slices::wipe(store, 0);
-    Outcome::Refused(refusal)
+    if !fitting::fits(session, table) {
+        return Err(Refusal::Misfit);
+    }
+    if !reading_tests::numbers_taken(session.inputs, numbers) {
+        return Err(Refusal::BadNumber);
+    }
+    if !reading_tests::result_taken(table, session.count, res) {
+        return Err(Refusal::BadResult);
+    }
+    Ok(())
 }
 
 // What a rule comes to when it is run over a store of places; or a refusal, by 2, 13, 4 to 8, 16 or 12.
@@ -61,18 +66,35 @@ pub fn run_plainly(
 ) -> Outcome
     ensures { (result, store.new) ≡ run_plainly_of inputs numbers rule.now allowance store.old }
 {
-    if opening::inputs_taken(inputs) {} else {
-        return unrun(numbers::BAD_INPUT, store);
+    match test_run(inputs, numbers, rule, allowance) {
+        Ok(()) => interpreter::run_in_store(inputs, numbers, rule, allowance, store),
+        Err(refusal) => {
+            slices::wipe(store, 0);
+            Outcome::Refused(refusal.number())
+        }
     }
-    if reading_tests::numbers_taken(inputs, numbers) {} else {
-        return unrun(numbers::BAD_NUMBER, store);
+}
+
+// The tests before a run, but for the length of the store.
+#[tactic(auto, using(crate::proofs::Answers::run_tests))]
+fn test_run(
+    inputs: [Input; 16],
+    numbers: [Word; 16],
+    rule: &[u8],
+    allowance: u16,
+) -> Result<(), Refusal>
+    ensures taken { OnOk result ((bytes : ℕ) → run_outcome inputs numbers rule.now allowance bytes ≡ stored_outcome (started_of (places_in bytes) rule.now allowance (inputs_bound inputs numbers))) }
+    ensures refused { IfErr result (λ refusal. (bytes : ℕ) → run_outcome inputs numbers rule.now allowance bytes ≡ Refused (number_of refusal)) }
+{
+    if !opening::inputs_taken(inputs) {
+        return Err(Refusal::BadInput);
     }
-    let k = rules::refusal(rule);
-    if 0 < k {
-        return unrun(k, store);
+    if !reading_tests::numbers_taken(inputs, numbers) {
+        return Err(Refusal::BadNumber);
     }
+    rules::check(rule)?;
     if record_tests::bad_depth(allowance) {
-        return unrun(numbers::BAD_ALLOWANCE, store);
+        return Err(Refusal::BadAllowance);
     }
-    interpreter::run_in_store(inputs, numbers, rule, allowance, store)
+    Ok(())
 }

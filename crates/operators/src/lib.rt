@@ -11,6 +11,7 @@ use words::Word;
 const CODES: usize = 36;
 
 // For each code its operands, and 4 more where it gives a truth; 0: no such code.
+// Both in one number, as `row_of` has them: the table here is the one of the definitions.
 const OPERATORS: [u8; CODES] = [
     0, 2, 2, 2, 2, 2, 2, 2, 2, 1, 1, 6, 6, 5, 5, 5, 0, 0, 0, 0, 0, 0, 0, 0, 0, 0, 0, 0, 0, 0, 0, 0,
     5, 6, 6, 5,
@@ -20,11 +21,13 @@ const OPERATORS: [u8; CODES] = [
 pub fn bit(b: bool) -> Word
     ensures { result ≡ bit_of b }
 {
-    if b { 1 } else { 0 }
+    Word::from(b)
 }
 
 // What the operator with a code from 1 to 12 gives on two words: a word, or a truth as 0 or 1. Any other code
 // is taken for 12.
+// By the code's number and no enum: `operate_of` is over every number, and callers have it from a byte.
+#[tactic(auto, using(notation::proofs::Follow::values), unfolding(crate::specs::Operators::operate_of))]
 pub fn operate(op: u8, x: Word, y: Word) -> Word
     ensures { result ≡ operate_of op x y }
 {
@@ -45,14 +48,15 @@ pub fn operate(op: u8, x: Word, y: Word) -> Word
 }
 
 // An operator's row of the table; 0 past its end.
+#[tactic(auto, unfolding(crate::specs::Operators::row_of))]
 fn row(op: u8) -> u8
     ensures { result ≡ row_of op }
 {
-    let i = op as usize;
-    if i < CODES { OPERATORS[i] } else { 0 }
+    OPERATORS.get(usize::from(op)).copied().unwrap_or(0)
 }
 
 // How many operands an operator has; 0: no such code.
+#[tactic(auto, unfolding(crate::specs::Operators::operands_of))]
 pub fn operands(op: u8) -> u8
     ensures { result ≡ operands_of op }
 {
@@ -60,6 +64,7 @@ pub fn operands(op: u8) -> u8
 }
 
 // Whether an operator gives a truth.
+#[tactic(auto, unfolding(crate::specs::Operators::gives_truth_of))]
 pub fn gives_truth(op: u8) -> bool
     ensures { result ≡ gives_truth_of op }
 {

@@ -1,11 +1,28 @@
 -- What code promises that goes as far as a part of an expression, and leaves the part to be run. Assumes nothing.
-use Rattle.std.specs.Prelude.{◌≡◌, ℕ, List}
+use Rattle.std.specs.Prelude.{◌≡◌, ℕ}
+use Rattle.std.specs.declared.result.Result.{Result}
+use Rattle.std.specs.declared.result.Result.TheVariants.{Ok, Err}
+use Rattle.semantics.specs.declared.State.{State}
+use Rattle.semantics.specs.declared.Result.{Result as Ending}
+use Rattle.semantics.specs.declared.refusal.Refusal.{Refusal}
 use Rattle.semantics.specs.Steps.{Make}
-use Rattle.terms.specs.Gives.{OnlyAppends, Gives}
+use Rattle.semantics.specs.Evaluation.{Evaluator, Fork, both_of}
+use Rattle.terms.specs.Gives.{Gives}
+use Rattle.terms.specs.declared.table.Table.{Table}
+use Rattle.parts.specs.declared.Sides.{Sides}
+use Rattle.parts.specs.declared.Sides.TheVariants.{Alone, Both}
+use Rattle.parts.specs.declared.Forked.{Forked}
 
--- The step m from the table s with n terms is refused by r, or else goes on as the step l does from the table y with c terms. It does so for every
+-- The step m from the table s is refused as r says, or else goes on as the step l of r's answer does from the table y. It does so for every
 -- b, which is what the code does not know: the evaluator of the parts.
-pub record Onward {A B : Type 0} (m l : B → Make A) (s : List ℕ) (n r c : ℕ) (y : List ℕ) : Type 0 where
-  pub stops : (b : B) → (r ≡ 0 → ⊥) → {u : ℕ} {a : A} → Gives (m b) s n r c u a y
-  pub goes : (b : B) → r ≡ 0 → {q e u : ℕ} {a : A} {z : List ℕ} → Gives (l b) y c q e u a z → Gives (m b) s n q e u a z
-  pub kept : OnlyAppends s n y c
+pub record Onward {A B T : Type 0} (m : B → Make A) (l : T → B → Make A) (s : Table) (r : Result T Refusal) (y : Table) : Type 0 where
+  pub stops : (b : B) {k : Refusal} → r ≡ Err k → (u : ℕ) → Gives (m b) s u (Err k) y
+  pub goes : (b : B) {t : T} → r ≡ Ok t → {u : ℕ} {x : Result A Refusal} {z : Table} → Gives (l t b) y u x z → Gives (m b) s u x z
+
+-- an if once its test is made: one branch alone, or both
+abbrev pub tested : ℕ → ℕ → ℕ → Sides → Evaluator × State → Make Ending
+tested q r env (Alone part) b = b.0 part env b.1
+tested q r env (Both g) b = both_of b.0 g q r env b.1
+
+abbrev pub forked : Forked → Fork
+forked f = record { guard = f.guard; yes = f.yes; no = f.no }

@@ -9,8 +9,7 @@
 mod inputs;
 mod streams;
 
-ghost use Rattle.std.specs.Prelude.{◌≡◌, List, ℕ, length, take};
-ghost use Rattle.semantics.specs.Numbers.{input_count};
+ghost use Rattle.std.specs.Prelude.{◌≡◌, List, ℕ, take};
 ghost use Rattle.semantics.specs.Print.{evaluation_lines};
 ghost use Rattle.io.specs.Counts.{IsPrefixLen};
 ghost use Rattle.text.specs.Appends.{Writes};
@@ -30,29 +29,24 @@ const INPUT: usize = forms::INPUTS + numbers::RULE_BYTES + 1;
 
 // A rule evaluated in a session over a table.
 fn put_evaluation(out: &mut [u8; OUTPUT], session: Session, table: &mut [u8], rule: &[u8]) -> usize
-    requires { length session.inputs ≡ input_count }
     ensures { Writes (lines_text (evaluation_lines rule.now session table.old)) out.new result }
 {
     let e = entry::enter_once(session, table, rule, ALLOWANCE);
-    let answer = e.answer;
-    let after = e.session;
-    lines::put_answer(out, answer, table, session.count, after.count)
+    lines::put_answer(out, e.answer, table, session.count, e.session.count)
 }
 
 // What is to be written for what was read: its bytes at the start of `out`, and how many there are.
 pub fn printed(input: &[u8], out: &mut [u8; OUTPUT]) -> usize
     ensures { Writes (written_of input.now) out.new result }
 {
-    if inputs::whole(input) {} else {
+    if !inputs::whole(input) {
         return lines::put_refusal(out, numbers::BAD_INPUT);
     }
     let mut table = [0u8; numbers::MOST_TABLE];
-    let o = opening::open(inputs::all(input), &mut table);
-    if o.refusal != 0 {
-        return lines::put_refusal(out, o.refusal);
+    match opening::open(inputs::all(input), &mut table) {
+        Ok(session) => put_evaluation(out, session, &mut table, &input[forms::INPUTS..]),
+        Err(refusal) => lines::put_refusal(out, refusal.number()),
     }
-    let session = o.session;
-    put_evaluation(out, session, &mut table, &input[forms::INPUTS..])
 }
 
 // What is to be written for a whole input, of which the first n bytes of the buffer are as much as the buffer holds. An

@@ -1,6 +1,6 @@
 // Ranges: what a term may read as in a box of readings, and whether a goal may be reached there. A range is a report of document
 // 02's "Two", but for what a search for a witness gains by. No function has a `requires`.
-#![tactic(auto)]
+#![tactic(auto, using(notation::proofs::Follow::tests), unfolding(crate::specs::Ranges::one_word, crate::specs::Ranges::one_word_each, crate::specs::Ranges::worked_out, crate::specs::Ranges::ones_range, crate::specs::Ranges::zeros_range, crate::specs::Ranges::equal_range, crate::specs::Ranges::operation_range, crate::specs::Ranges::is_word_range, crate::specs::Ranges::is_procedure_range, crate::specs::Ranges::truth_range, crate::specs::Ranges::operator_range, crate::specs::Ranges::term_range, crate::specs::MayReach::may_err, crate::specs::MayReach::may_abort, crate::specs::MayReach::may_be, crate::specs::MayReach::may_give))]
 
 ghost use Rattle.std.specs.Prelude.{◌≡◌};
 ghost use Rattle.ranges.specs.Ranges.{one_word, one_word_each, worked_out, ones_range, zeros_range, equal_range, operation_range, is_word_range, is_procedure_range, truth_range, operator_range, term_range};
@@ -9,7 +9,8 @@ ghost use Rattle.ranges.specs.MayReach.{may_err, may_abort, may_be, may_give, ma
 use semantics::{Goal, Report, Term, numbers};
 use words::Word;
 
-// A term, of the ranges of a, b and c, where each free input has a least and a greatest number.
+// A term, of the ranges of a, b and c, where each free input has a least and a greatest number. They come apart, as
+// `reports::term_report` takes them.
 pub fn term_range(
     t: Term,
     lows: [Word; 16],
@@ -32,15 +33,13 @@ fn operator_range(op: u8, x: Report, y: Report) -> Report
     ensures { result ≡ operator_range op x y }
 {
     if op < numbers::NOT_CODE {
-        operation_range(op, x, y)
-    } else if op == numbers::IS_WORD_CODE {
-        is_word_range(x)
-    } else if op == numbers::IS_PROCEDURE_CODE {
-        is_procedure_range(x)
-    } else if op == numbers::TRUTH_CODE {
-        truth_range(x)
-    } else {
-        reports::operator_report(op, x, y)
+        return operation_range(op, x, y);
+    }
+    match op {
+        numbers::IS_WORD_CODE => is_word_range(x),
+        numbers::IS_PROCEDURE_CODE => is_procedure_range(x),
+        numbers::TRUTH_CODE => truth_range(x),
+        _ => reports::operator_report(op, x, y),
     }
 }
 
@@ -49,15 +48,13 @@ fn operation_range(op: u8, x: Report, y: Report) -> Report
     ensures { result ≡ operation_range op x y }
 {
     if one_word_each(op, x, y) {
-        worked_out(op, operators::operate(op, x.low, y.low))
-    } else if op == numbers::ONES_CODE {
-        ones_range(x)
-    } else if op == numbers::ZEROS_CODE {
-        zeros_range(x)
-    } else if op == numbers::EQUAL_CODE {
-        equal_range(x, y)
-    } else {
-        reports::operator_report(op, x, y)
+        return worked_out(op, operators::operate(op, x.low, y.low));
+    }
+    match op {
+        numbers::ONES_CODE => ones_range(x),
+        numbers::ZEROS_CODE => zeros_range(x),
+        numbers::EQUAL_CODE => equal_range(x, y),
+        _ => reports::operator_report(op, x, y),
     }
 }
 
@@ -65,25 +62,13 @@ fn operation_range(op: u8, x: Report, y: Report) -> Report
 fn one_word_each(op: u8, x: Report, y: Report) -> bool
     ensures { result ≡ one_word_each op x y }
 {
-    if one_word(x) {
-        if operators::operands(op) == 1 {
-            true
-        } else {
-            one_word(y)
-        }
-    } else {
-        false
-    }
+    one_word(x) && (operators::operands(op) == 1 || one_word(y))
 }
 
 fn one_word(x: Report) -> bool
     ensures { result ≡ one_word x }
 {
-    if x.sort == numbers::WORD_TERM {
-        x.low == x.high
-    } else {
-        false
-    }
+    x.sort == numbers::WORD_TERM && x.low == x.high
 }
 
 // What an operator gave, alone.
@@ -123,14 +108,8 @@ fn zeros_range(x: Report) -> Report
 fn equal_range(x: Report, y: Report) -> Report
     ensures { result ≡ equal_range x y }
 {
-    if reports::are_spans(x, y) {
-        if x.high < y.low {
-            reports::truth_report(0, 0)
-        } else if y.high < x.low {
-            reports::truth_report(0, 0)
-        } else {
-            reports::both_truths()
-        }
+    if reports::are_spans(x, y) && (x.high < y.low || y.high < x.low) {
+        reports::truth_report(0, 0)
     } else {
         reports::both_truths()
     }
@@ -140,12 +119,10 @@ fn equal_range(x: Report, y: Report) -> Report
 fn is_word_range(x: Report) -> Report
     ensures { result ≡ is_word_range x }
 {
-    if x.sort == 0 {
-        reports::both_truths()
-    } else if x.sort == numbers::WORD_TERM {
-        reports::truth_report(1, 1)
-    } else {
-        reports::truth_report(0, 0)
+    match x.sort {
+        0 => reports::both_truths(),
+        numbers::WORD_TERM => reports::truth_report(1, 1),
+        _ => reports::truth_report(0, 0),
     }
 }
 
@@ -164,12 +141,10 @@ fn is_procedure_range(x: Report) -> Report
 fn truth_range(x: Report) -> Report
     ensures { result ≡ truth_range x }
 {
-    if x.sort == numbers::TRUTH_TERM {
-        x
-    } else if x.sort == numbers::WORD_TERM {
-        reports::truth_report(1, 1)
-    } else {
-        reports::both_truths()
+    match x.sort {
+        numbers::TRUTH_TERM => x,
+        numbers::WORD_TERM => reports::truth_report(1, 1),
+        _ => reports::both_truths(),
     }
 }
 
@@ -188,59 +163,25 @@ pub fn may_reach(goal: Goal, halted: bool, s: Report, t: Report, v: Report) -> b
 fn may_err(s: Report, t: Report, halted: bool) -> bool
     ensures { result ≡ may_err s t halted }
 {
-    if reports::only_true(t) {
-        if halted {
-            if reports::only_false(s) { false } else { true }
-        } else {
-            false
-        }
-    } else {
-        true
-    }
+    !reports::only_true(t) || halted && !reports::only_false(s)
 }
 
 // T true and S false.
 fn may_abort(s: Report, t: Report) -> bool
     ensures { result ≡ may_abort s t }
 {
-    if reports::only_false(t) {
-        false
-    } else if reports::only_true(s) {
-        false
-    } else {
-        true
-    }
+    !reports::only_false(t) && !reports::only_true(s)
 }
 
 // Both true, the word, and no halt.
 fn may_give(s: Report, t: Report, halted: bool, v: Report, w: Word) -> bool
     ensures { result ≡ may_give s t halted v w }
 {
-    if halted {
-        false
-    } else if reports::only_false(t) {
-        false
-    } else if reports::only_false(s) {
-        false
-    } else {
-        may_be(v, w)
-    }
+    !halted && !reports::only_false(t) && !reports::only_false(s) && may_be(v, w)
 }
 
 fn may_be(v: Report, w: Word) -> bool
     ensures { result ≡ may_be v w }
 {
-    if v.sort == 0 {
-        true
-    } else if v.sort == numbers::WORD_TERM {
-        if w < v.low {
-            false
-        } else if v.high < w {
-            false
-        } else {
-            true
-        }
-    } else {
-        false
-    }
+    v.sort == 0 || v.sort == numbers::WORD_TERM && v.low <= w && w <= v.high
 }

@@ -10,7 +10,8 @@ ghost use Rattle.reader.specs.Reader.{held_outcome, unpacked_of, held_reading};
 use semantics::{Outcome, Reading, Result, Term, numbers};
 use words::{WORDS, Wide, Word};
 
-// A place of the work list: the sort of a reading, counted in words, and its number. What stands above them is not read.
+// A place of the work list: the sort of a reading, counted in words, and its number. What stands above them is not read. One
+// number, and no struct: the C interface lends the list as numbers.
 pub type Place = Wide;
 
 // What a result reads as, of what is held for the terms.
@@ -27,11 +28,7 @@ pub fn outcome_held(held: &[Place], res: Result) -> Outcome
 pub fn wipe(work: &mut [Place])
     ensures { work.new ≡ replicate (length work.old) 0 }
 {
-    let mut k: usize = 0;
-    while k < work.len() {
-        work[k] = 0;
-        k += 1;
-    }
+    work.fill(0);
 }
 
 // What is held for term k; nothing where there is no place for it.
@@ -46,6 +43,7 @@ fn held_reading(held: &[Place], k: u16) -> Reading
 }
 
 // The reading in a place; 0 is nothing.
+#[tactic(auto, unfolding(crate::specs::Reader::unpacked_of))]
 pub fn unpack(n: Place) -> Reading
     ensures { result ≡ unpacked_of n }
 {
@@ -56,21 +54,21 @@ pub fn unpack(n: Place) -> Reading
 }
 
 // A term, of what is held for lower ones. Only those are looked up that it is read from; operators and choices, of which a
-// table has most, come first.
+// table has most, come first, before the match, for the speed of bales (docs/PERFORMANCE.md).
+#[tactic(auto, using(notation::proofs::Follow::tests), unfolding(semantics::specs::Reading::term_reading))]
 pub fn term_reading(t: Term, numbers: [Word; 16], held: &[Place]) -> Reading
     ensures { result ≡ term_reading numbers t (held_reading held.now t.a) (held_reading held.now t.b) (held_reading held.now t.c) }
 {
-    let k = t.kind;
-    if k == numbers::OPERATOR_TERM {
+    if t.kind == numbers::OPERATOR_TERM {
         return readings::operator_reading(t.op, held_reading(held, t.a), held_reading(held, t.b));
     }
-    if k == numbers::CHOICE_TERM {
+    if t.kind == numbers::CHOICE_TERM {
         return choice_reading(t, held);
     }
-    match k {
+    match t.kind {
         numbers::TRUTH_TERM => Reading {
             sort: numbers::TRUTH_TERM,
-            number: t.a as Word,
+            number: Word::from(t.a),
         },
         numbers::WORD_TERM => Reading {
             sort: numbers::WORD_TERM,
@@ -86,14 +84,15 @@ pub fn term_reading(t: Term, numbers: [Word; 16], held: &[Place]) -> Reading
         },
         numbers::PROCEDURE_TERM => Reading {
             sort: numbers::PROCEDURE_TERM,
-            number: t.a as Word,
+            number: Word::from(t.a),
         },
-        // a binding reads as nothing
+        // a binding reads as nothing, which the definitions (`nothing`) hold to be sort 0
         _ => Reading { sort: 0, number: 0 },
     }
 }
 
 // A choice: b if a, else c. Both sides are looked up, so that no jump hangs on the guard.
+#[tactic(auto, using(notation::proofs::Follow::tests))]
 fn choice_reading(t: Term, held: &[Place]) -> Reading
     ensures { result ≡ (when is_true (held_reading held.now t.a) then held_reading held.now t.b else held_reading held.now t.c) }
 {

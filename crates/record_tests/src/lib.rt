@@ -2,11 +2,12 @@
 // at the allowance that it is evaluated with. No public function has a `requires`.
 #![tactic(auto)]
 
-ghost use Rattle.std.specs.Prelude.{◌≡◌};
+ghost use Rattle.std.specs.Prelude.{◌≡◌, ◌<◌, IfSome};
 ghost use Rattle.notation.specs.Notation.{up_to};
 ghost use Rattle.semantics.specs.Records.{record_at};
 ghost use Rattle.semantics.specs.Rules.{bad_rule_size, uses_of, shaped_of};
 ghost use Rattle.semantics.specs.Evaluate.{bad_depth};
+ghost use Rattle.record_tests.specs.Uses.{use_count};
 
 use semantics::Record;
 use semantics::numbers::{
@@ -15,88 +16,74 @@ use semantics::numbers::{
     WORD_DATUM,
 };
 
-// What `uses` answers where there is no such kind or op.
-const NO_SUCH: u8 = 4;
-
 // Test 4: there are no bytes, too many, or not whole records.
+#[tactic(auto, using(crate::proofs::Follow::tests), unfolding(semantics::specs::Rules::bad_rule_size))]
 pub fn bad_size(l: usize) -> bool
     ensures { result ≡ bad_rule_size l }
 {
-    if l == 0 {
-        return true;
-    }
-    RULE_BYTES < l || l % 8 != 0
+    l == 0 || RULE_BYTES < l || l % 8 != 0
 }
 
 // Test 5 lets the first n records pass.
 pub fn shapes(rule: &[u8], n: u16) -> bool
     ensures { result ≡ up_to n (λ i. shaped_of (record_at rule.now i)) }
 {
-    for i in 0..n {
-        if !shaped(records::record_at(rule, i)) {
-            return false;
-        }
-    }
-    true
+    (0..n).all(|i| shaped(records::record_at(rule, i)))
 }
 
 // A record's kind and op are among those there are, and the fields that it does not use are zero.
+#[tactic(auto, using(crate::proofs::Follow::tests), unfolding(semantics::specs::Rules::shaped_of))]
 fn shaped(x: Record) -> bool
     ensures { result ≡ shaped_of x }
 {
-    let u = uses(x);
-    if u == NO_SUCH {
-        return false;
+    match uses(x) {
+        Some(u) => {
+            fields::field(u, 0, x.p) && fields::field(u, 1, x.q) && fields::field(u, 2, x.r)
+        }
+        None => false,
     }
-    if !fields::field(u, 0, x.p) {
-        return false;
-    }
-    fields::field(u, 1, x.q) && fields::field(u, 2, x.r)
 }
 
-// How many of p, q and r, in this order, a record of its kind and op uses.
-fn uses(x: Record) -> u8
-    ensures { result ≡ uses_of x }
+// How many of p, q and r, in this order, a record of its kind and op uses; none where there is no such kind or op.
+#[tactic(auto, using(crate::proofs::Follow::tests), unfolding(semantics::specs::Rules::uses_of))]
+fn uses(x: Record) -> Option<u8>
+    ensures count { use_count result ≡ uses_of x }
+    ensures few { IfSome result (λ u. u < 4) }
 {
-    let k = x.kind;
-    if k == DATUM_RECORD {
-        if x.op < WORD_DATUM {
-            return 0;
+    match x.kind {
+        DATUM_RECORD => match x.op {
+            0..WORD_DATUM => Some(0),
+            WORD_DATUM => Some(words::FIELDS),
+            _ => None,
+        },
+        OPERATOR_RECORD => {
+            if IS_PROCEDURE_CODE < x.op {
+                return None;
+            }
+            match operators::operands(x.op) {
+                0 => None,
+                n => Some(n),
+            }
         }
-        return if x.op == WORD_DATUM {
-            words::FIELDS
-        } else {
-            NO_SUCH
-        };
-    }
-    if k == OPERATOR_RECORD {
-        if IS_PROCEDURE_CODE < x.op {
-            return NO_SUCH;
+        kind => {
+            if x.op != 0 {
+                return None;
+            }
+            match kind {
+                VARIABLE_RECORD | PROCEDURE_RECORD => Some(1),
+                CALL_RECORD | LET_RECORD => Some(2),
+                IF_RECORD => Some(3),
+                ABORT_RECORD | ERROR_RECORD => Some(0),
+                _ => None,
+            }
         }
-        let n = operators::operands(x.op);
-        return if n == 0 { NO_SUCH } else { n };
     }
-    if x.op == 0 {
-        return match k {
-            VARIABLE_RECORD => 1,
-            PROCEDURE_RECORD => 1,
-            CALL_RECORD => 2,
-            LET_RECORD => 2,
-            IF_RECORD => 3,
-            ABORT_RECORD => 0,
-            ERROR_RECORD => 0,
-            _ => NO_SUCH,
-        };
-    }
-    NO_SUCH
 }
 
 // Test 8: an allowance outside 1 to 256.
+#[tactic(auto, using(crate::proofs::Follow::tests), unfolding(semantics::specs::Evaluate::bad_depth))]
 pub fn bad_depth(allowance: u16) -> bool
     ensures { result ≡ bad_depth allowance }
 {
-    if allowance == 0 {
-        return true;
-    }
-    ALLOWANCE_LIMIT < allowance
+    allowance == 0 || ALLOWANCE_LIMIT < allowance
 }

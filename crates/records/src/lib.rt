@@ -2,8 +2,8 @@
 // nothing reads past a slice whatever its length. No public function has a `requires`.
 #![tactic(auto)]
 
-ghost use Rattle.std.specs.Prelude.{◌≡◌};
-ghost use Rattle.semantics.specs.Records.{record_at};
+ghost use Rattle.std.specs.Prelude.{◌≡◌, ◌+◌, ◌<◌, ◌^◌};
+ghost use Rattle.semantics.specs.Records.{pair_at, record_at};
 ghost use Rattle.semantics.specs.Terms.{term_at};
 
 use semantics::{Record, Term};
@@ -13,29 +13,37 @@ use semantics::{Record, Term};
 pub fn record_at(s: &[u8], i: u16) -> Record
     ensures { result ≡ record_at s.now i }
 {
-    let from = 8 * (i as usize);
-    let end = from + 8;
-    if end <= s.len() {
-        return cut(&s[from..end], 0);
+    let from = 8 * usize::from(i);
+    match s.get(from..from + 8) {
+        Some(whole) => cut(whole, 0),
+        None => cut(s, i),
     }
-    cut(s, i)
 }
 
 // The record with a number, with a bound tested for each byte: a record past the end of the slice has zeros there.
 fn cut(s: &[u8], i: u16) -> Record
     ensures { result ≡ record_at s.now i }
 {
-    let at = 8 * (i as usize);
+    let at = 8 * usize::from(i);
     Record {
         kind: slices::byte(s, at),
         op: slices::byte(s, at + 1),
-        p: slices::pair(slices::byte(s, at + 2), slices::byte(s, at + 2 + 1)),
-        q: slices::pair(slices::byte(s, at + 4), slices::byte(s, at + 4 + 1)),
-        r: slices::pair(slices::byte(s, at + 6), slices::byte(s, at + 6 + 1)),
+        p: pair_at(s, at + 2),
+        q: pair_at(s, at + 4),
+        r: pair_at(s, at + 6),
     }
 }
 
+// The number of the two bytes at a position.
+fn pair_at(s: &[u8], at: usize) -> u16
+    requires { at + 1 < 2 ^ 64 }
+    ensures { result ≡ pair_at s.now at }
+{
+    slices::pair(slices::byte(s, at), slices::byte(s, at + 1))
+}
+
 // The term with a number, of a table, whose records are cut as a rule's are: kind, op and three fields of two bytes.
+// Field by field: both structs are of `semantics`, so that no `From` between them can stand here.
 pub fn term_at(s: &[u8], i: u16) -> Term
     ensures { result ≡ term_at s.now i }
 {

@@ -3,7 +3,7 @@
 use mathlib.Core.Path.{◌≡◌, refl, sym, ap, ◌∙◌}
 use mathlib.Core.Bool.{Bool, true, false, not, ◌&&◌, and-false}
 use mathlib.Core.List.{List, ◌∷◌}
-use Prim.Native.Nat.{ℕ, zero, suc, ◌+◌, ◌-◌, ◌*◌, ◌/◌, ◌%◌, ◌<◌, ◌≤◌, min}
+use Prim.Native.Nat.{ℕ, zero, suc, ◌+◌, ◌-◌, ◌*◌, ◌/◌, ◌%◌, ◌<◌, min}
 use native.Mathlib.Nat.{add-mul-mod_self_left, mod-eq_of_lt}
 use native.Mathlib.Numerals.{add-one}
 use native.Mathlib.Omega.{arith}
@@ -74,10 +74,6 @@ marked_next f bits s i {m} g et ek = rw (ek, et, add-one) (marked_more f bits (t
 
 -- ---- the search
 
--- where a search was made, what it found
-pub searched : {a b : Bool} {x y : Found} → a ≡ true → b ≡ true → x ≡ y → x.is ≡ (a && (b && y.is))
-searched h k e = rw (h, k, e)
-
 -- made only where both marks are set, it finds what the definition's finds
 found_by : (f g bits n : ℕ) (t : Term) (ts : List Term) (l m : List Bool) → well_formed n ts ≡ true → Marked f bits ts l → Marked g bits ts m
     → (get_or l (kept f bits t) false && (get_or m (kept g bits t) false && (find_above ts t).is)) ≡ (find_of ts t).is
@@ -106,9 +102,6 @@ module _ (n : ℕ) (s : List ℕ) where
 
   formed_stop : (i l : ℕ) → i < l → well_formed n (terms_in s (suc i)) ≡ false → false ≡ well_formed n (terms_in s l)
   formed_stop i l h w = let e : l ≡ l - suc i + suc i = omega arith in rw e (sym (unformed_more (suc i) (l - suc i) w))
-
-  pub formed_end : (i l : ℕ) → well_formed n (terms_in s i) ≡ true → i ≤ l → l ≤ i → true ≡ well_formed n (terms_in s l)
-  formed_end i l w h k = let e : l ≡ i = omega arith in rw e (sym w)
 
   module _ (i : ℕ) (w : well_formed n (terms_in s i) ≡ true) {t : Term} (et : t ≡ term_at s i) {b : Bool} (eb : b ≡ laid_out n (terms_in s i) t) where
     pub formed_miss : (l : ℕ) → i < l → b ≡ false → false ≡ well_formed n (terms_in s l)

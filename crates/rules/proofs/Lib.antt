@@ -1,4 +1,3 @@
-pub mod Told
 pub mod Trees
 pub mod OneTurn
 pub mod Scopes

@@ -65,7 +65,7 @@ module _ (s : List ℕ) (n : ℕ) where
           fallen_once k = fallen (once_so s n i ex ec eu r.marked l h ew k)
 
           -- one that stands
-          pub reached_next : {p q : Bool} {y z : List ℕ} → w ≡ true → p ≡ every (λ place. ltb place (get_or b i 0 + input_count)) (places_of x) → q ≡ (p && o)
+          pub reached_next : {p q : Bool} {y z : List ℕ} → w ≡ true → p ≡ every (λ place. ltb place (get_or b i 0 + input_count)) (places_of x) → q ≡ (o && p)
               → y ≡ marked_of cs m → z ≡ told_of (get_or b i 0) cs b → Reached (i + 1) y z q (t + 1)
           reached_next k ep eq ey ez =
               let stands = once_so s n i ex ec eu r.marked l h ew k in

@@ -20,10 +20,6 @@ use Rattle.scopes.specs.Scopes.{KeptInScope}
 use Rattle.rules.specs.Passes.{Cleared, told_of}
 use Rattle.rules.specs.Turns.{stands_of}
 
--- a store past the end of a list
-pub put_past : (m : List ℕ) (i v : ℕ) → length m ≤ i → m ≡ set m i v
-put_past m i v h = sym (set_out m i v h)
-
 -- lists of zeros
 zeros : (k j : ℕ) → ◌≡◌ {A = ℕ} (get_or (replicate k 0) j 0) 0
 zeros zero j = refl
@@ -180,15 +176,13 @@ sees_start s n tree = refl
 -- record i is tested by the count kept with it
 pub sees_next : (s : List ℕ) (n i : ℕ) {m : List ℕ} {x : Record} {b c d : Bool}
     → Sees s n i b → Kept s n i m → i < n → stands_of s n i ≡ true → x ≡ record_at s i
-    → c ≡ every (λ p. ltb p (get_or m i 0 + input_count)) (places_of x) → d ≡ (c && b) → Sees s n (i + 1) d
+    → c ≡ every (λ p. ltb p (get_or m i 0 + input_count)) (places_of x) → d ≡ (b && c) → Sees s n (i + 1) d
 unfolding up_to when◌then◌else◌ scoped_of with
 sees_next s n i {m} {x} {b} {c} h g l w ex ec e tree = rw (add-one, up_to, h tree, ← kept_here s n i g l w tree, ← ex, ← ec, e) (go b c)
   where
-    go : (b c : Bool) → pick b c false ≡ (c && b)
-    go true true = refl
-    go true false = refl
-    go false true = refl
-    go false false = refl
+    go : (b c : Bool) → pick b c false ≡ (b && c)
+    go true c = refl
+    go false c = refl
 
 pub sees_end : (s : List ℕ) (n i : ℕ) {b c : Bool} → Sees s n i b → i ≤ n → n ≤ i → up_to n (linked_of s n) ≡ true → b ≡ c → c ≡ up_to n (scoped_of s)
 sees_end s n i h l k tree e = let q : n ≡ i = omega arith in rw q (sym (h tree ∙ e))

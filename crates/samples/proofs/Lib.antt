@@ -1,3 +1,2 @@
-mod Ways
-mod Lists
 mod Answers
+pub mod Refusals

@@ -6,12 +6,13 @@
 ghost use Rattle.std.specs.Prelude.{◌≡◌, ◌+◌, ◌*◌, ◌≤◌, length, replicate};
 ghost use Rattle.words.specs.Words.{word_limit};
 ghost use Rattle.semantics.specs.Numbers.{input_count};
+ghost use Rattle.semantics.specs.Refusals.{answer_number};
 ghost use Rattle.semantics.specs.Samples.{sample_at, answer_place, sample_refusal, read_all_of};
 ghost use Rattle.marked.specs.Marked.{Under};
 ghost use Rattle.samples.specs.Answers.{outcome_in, sample_outcome, Answers};
 
 use reader::Place;
-use semantics::{Input, Outcome, Result, Session, numbers};
+use semantics::{Input, Outcome, Refusal, Session, numbers};
 use words::{WORDS, Word};
 
 // How many numbers a sample has.
@@ -21,14 +22,14 @@ const SAMPLE: usize = numbers::INPUT_COUNT as usize;
 pub fn read_all(
     session: Session,
     table: &[u8],
-    res: Result,
+    res: semantics::Result,
     numbers: &[Word],
     work: &mut [Place],
     answers: &mut [Place],
-) -> u8
-    ensures { (result, work.new, answers.new) ≡ read_all_of session table.now res numbers.now work.old answers.old }
+) -> Result<(), Refusal>
+    ensures { (answer_number result, work.new, answers.new) ≡ read_all_of session table.now res numbers.now work.old answers.old }
 {
-    let refusal = refusal(
+    let tested = tests(
         session,
         table,
         res,
@@ -36,66 +37,55 @@ pub fn read_all(
         work.len(),
         answers.len(),
     );
-    if refusal != 0 {
-        reader::wipe(work);
-        return refusal;
+    if tested.is_ok() {
+        under::mark_under(table, session.count, res, work);
+        read_each(session, table, res, numbers, work, answers);
     }
-    under::mark_under(table, session.count, res, work);
-    read_each(session, table, res, numbers, work, answers);
     reader::wipe(work);
-    0
+    tested
 }
 
-// The first of 3, 14 and 15 that refuses the whole call; else 0.
-fn refusal(
+// The first of 3, 14 and 15 refuses the whole call.
+#[tactic(auto, using(notation::proofs::Follow::tests), unfolding(semantics::specs::Samples::sample_refusal))]
+fn tests(
     session: Session,
     table: &[u8],
-    res: Result,
+    res: semantics::Result,
     given: usize,
     places: usize,
     answers: usize,
-) -> u8
-    ensures { result ≡ sample_refusal session table.now res given places answers }
+) -> Result<(), Refusal>
+    ensures { answer_number result ≡ sample_refusal session table.now res given places answers }
 {
-    if fitting::fits(session, table) {} else {
-        return numbers::MISFIT;
+    if !fitting::fits(session, table) {
+        return Err(Refusal::Misfit);
     }
-    if reading_tests::result_taken(table, session.count, res) {} else {
-        return numbers::BAD_RESULT;
+    if !reading_tests::result_taken(table, session.count, res) {
+        return Err(Refusal::BadResult);
     }
-    if places < session.count as usize {
-        return numbers::WORK_SHORT;
+    if places < session.count as usize || given % SAMPLE != 0 || answers != given / SAMPLE {
+        return Err(Refusal::WorkShort);
     }
-    if given % SAMPLE != 0 {
-        return numbers::WORK_SHORT;
-    }
-    if answers != given / SAMPLE {
-        return numbers::WORK_SHORT;
-    }
-    0
+    Ok(())
 }
 
 // Reads each sample and puts its answer at its place.
 fn read_each(
     session: Session,
     table: &[u8],
-    res: Result,
+    res: semantics::Result,
     numbers: &[Word],
     work: &mut [Place],
     answers: &mut [Place],
 )
-    requires fact_1 { Under table.now session.count res work.old }
-    requires fact_2 { length numbers.now ≡ input_count * length answers.old }
+    requires marked { Under table.now session.count res work.old }
+    requires whole { length numbers.now ≡ input_count * length answers.old }
     ensures { Answers session.inputs table.now session.count res numbers.now answers.old (length answers.old) answers.new }
 {
-    let inputs = session.inputs;
-    let mut j: usize = 0;
-    while j < answers.len() {
+    for (j, answer) in answers.iter_mut().enumerate() {
         let sample = sample_at(numbers, j);
-        let outcome = read_sample(inputs, table, session.count, res, sample, work);
-        let v = answer_place(outcome);
-        answers[j] = v;
-        j += 1;
+        let outcome = read_sample(session.inputs, table, session.count, res, sample, work);
+        *answer = answer_place(outcome);
     }
 }
 
@@ -105,51 +95,47 @@ fn sample_at(numbers: &[Word], j: usize) -> [Word; 16]
     ensures { result ≡ sample_at numbers.now j }
 {
     let from = SAMPLE * j;
-    let mut sample: [Word; 16] = [0; 16];
-    let mut i: usize = 0;
-    while i < SAMPLE {
-        let n = numbers[from + i];
-        sample[i] = n;
-        i += 1;
-    }
+    let mut sample = [0; 16];
+    sample.copy_from_slice(&numbers[from..from + SAMPLE]);
     sample
 }
 
 // What the result reads as under a sample; or the refusal of the sample, by 13. The marks stay.
+#[tactic(auto, using(notation::proofs::Follow::tests), unfolding(crate::specs::Answers::sample_outcome))]
 fn read_sample(
     inputs: [Input; 16],
     table: &[u8],
     count: u16,
-    res: Result,
+    res: semantics::Result,
     sample: [Word; 16],
     work: &mut [Place],
 ) -> Outcome
     requires { Under table.now count res work.old }
-    ensures fact_1 { result ≡ sample_outcome inputs table.now count res sample }
-    ensures fact_2 { Under table.now count res work.new }
+    ensures outcome { result ≡ sample_outcome inputs table.now count res sample }
+    ensures still_marked { Under table.now count res work.new }
 {
-    if reading_tests::numbers_taken(inputs, sample) {
-        marked::read_under(table, count, res, sample, work)
-    } else {
-        Outcome::Refused(numbers::BAD_NUMBER)
+    if !reading_tests::numbers_taken(inputs, sample) {
+        return Outcome::Refused(Refusal::BadNumber.number());
     }
+    marked::read_under(table, count, res, sample, work)
 }
 
 // What a result reads as under sixteen numbers, in a table with `count` terms. The work list has a place for each of them,
-// or is refused; it is zero on every return.
+// or is refused, by a number, as `Outcome` has it; it is zero on every return.
+#[tactic(auto, using(notation::proofs::Follow::tests), unfolding(crate::specs::Answers::outcome_in))]
 pub fn read_result(
     table: &[u8],
     count: u16,
     numbers: [Word; 16],
-    res: Result,
+    res: semantics::Result,
     work: &mut [Place],
 ) -> Outcome
-    ensures fact_1 { result ≡ outcome_in table.now count numbers res (length work.old) }
-    ensures fact_2 { work.new ≡ replicate (length work.old) 0 }
+    ensures outcome { result ≡ outcome_in table.now count numbers res (length work.old) }
+    ensures wiped { work.new ≡ replicate (length work.old) 0 }
 {
     if work.len() < count as usize {
         reader::wipe(work);
-        return Outcome::Refused(numbers::WORK_SHORT);
+        return Outcome::Refused(Refusal::WorkShort.number());
     }
     under::mark_under(table, count, res, work);
     let outcome = marked::read_under(table, count, res, numbers, work);
@@ -157,7 +143,7 @@ pub fn read_result(
     outcome
 }
 
-// An answer as one number: its kind, counted in words, and its number.
+// An answer as one number, as the C interface takes it: its kind, counted in words, and its number.
 fn answer_place(o: Outcome) -> Place
     ensures { result ≡ answer_place o }
 {
@@ -167,12 +153,12 @@ fn answer_place(o: Outcome) -> Place
         Outcome::Procedure(i) => place(numbers::PROCEDURE_TERM, i),
         Outcome::Abort => place(numbers::ABORT_RECORD, 0),
         Outcome::Error => place(numbers::ERROR_RECORD, 0),
-        Outcome::Refused(k) => k as Place,
+        Outcome::Refused(k) => Place::from(k),
     }
 }
 
 fn place(kind: u8, n: Word) -> Place
     ensures { result ≡ word_limit * kind + n }
 {
-    WORDS * (kind as Place) + (n as Place)
+    WORDS * Place::from(kind) + Place::from(n)
 }

@@ -1,4 +1,5 @@
 pub mod Numbers
+pub mod Refusals
 pub mod Records
 pub mod Rules
 pub mod Terms

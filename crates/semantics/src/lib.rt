@@ -3,7 +3,9 @@
 #![tactic(auto)]
 
 pub mod numbers;
+mod refusal;
 
+pub use refusal::{Refusal, answer_number};
 use words::Word;
 
 // A record of a rule.

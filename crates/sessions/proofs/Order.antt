@@ -4,9 +4,12 @@ use mathlib.Core.Bool.{Bool, true, false}
 use mathlib.Core.List.{List}
 use Prim.Native.Nat.{ℕ, ◌<◌, ◌≤◌}
 use native.Mathlib.Omega.{arith}
-use borrow.Author.Tests.{lt-ltb, le-ltb, le-leb, lt-leb}
+use lib.Dec.{eqb}
+use borrow.Author.Tests.{eqb-false, lt-ltb, le-ltb, le-leb, lt-leb}
 use Rattle.notation.specs.Notation.{pick, with, when◌then◌else◌, if◌below◌then◌else◌, unless◌then◌else◌}
 use Rattle.semantics.specs.declared.Session.{Session}
+use Rattle.semantics.specs.declared.refusal.Refusal.{Refusal}
+use Rattle.semantics.specs.Refusals.{number_of}
 use Rattle.semantics.specs.declared.Answer.TheVariants.{Refused}
 use Rattle.semantics.specs.declared.Evaluated.{Evaluated}
 use Rattle.semantics.specs.Numbers.{misfit, bad_allowance, rules_spent, rule_limit}
@@ -15,8 +18,9 @@ use Rattle.semantics.specs.Fits.{fits_of}
 use Rattle.typing.proofs.Formed.{never}
 use Rattle.semantics.specs.Evaluate.{refused_by, halted_again, evaluated, bad_depth, evaluate_of}
 
-pub zero_le : {k : ℕ} → k ≤ 0 → k ≡ 0
-zero_le h = omega arith
+-- no refusal has the number 0
+pub number_above : (k : Refusal) → 0 < number_of k
+number_above k = let e : eqb (number_of k) 0 ≡ false = grind arith in omega (arith, eqb-false _ _ e)
 
 -- a refusal with its number
 abbrev Refuses : ℕ → Session → List ℕ → List ℕ → ℕ → Type 0

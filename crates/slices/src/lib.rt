@@ -9,21 +9,22 @@ ghost use Rattle.slices.specs.Wiped.{wiped};
 pub fn byte(s: &[u8], at: usize) -> u8
     ensures { result ≡ get_or s.now at 0 }
 {
-    if at < s.len() { s[at] } else { 0 }
+    s.get(at).copied().unwrap_or(0)
 }
 
 // The number of two bytes.
 pub fn pair(low: u8, high: u8) -> u16
     ensures { result ≡ low + 256 * high }
 {
-    (low as u16) + 256 * (high as u16)
+    u16::from_le_bytes([low, high])
 }
 
 // Zero from a place on.
+#[tactic(auto, using(crate::proofs::Wiped::wiped_done), unfolding(crate::specs::Wiped::wiped))]
 pub fn wipe(s: &mut [u8], from: usize)
     ensures { s.new ≡ wiped s.old from }
 {
-    for k in from..s.len() {
-        s[k] = 0;
+    if from < s.len() {
+        s[from..].fill(0);
     }
 }

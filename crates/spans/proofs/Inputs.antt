@@ -1,32 +1,19 @@
--- The loops over the sixteen inputs: the test of the spans, and the ends of each input. Assumes nothing.
-use mathlib.Core.Path.{◌≡◌, sym, ◌∙◌}
-use mathlib.Core.Bool.{Bool, true, false, ◌&&◌}
-use mathlib.Core.List.{List}
-use Prim.Native.Nat.{ℕ, suc, ◌+◌, ◌<◌, ◌≤◌}
-use native.Mathlib.Numerals.{add-one}
-use native.Mathlib.Omega.{arith}
-use lib.ListN.{length, get_or, set, take, drop, drop_of_length-le}
-use lib.Seq.{drop-cons, take-suc, take-suc-set, take_all}
+-- The test of the spans goes by pairs, and the ends of each input are found in turn. Assumes nothing.
+use Rattle.std.specs.Prelude.{◌≡◌, ℕ, ◌+◌, ◌<◌, ◌≤◌, ◌&&◌, List, [], ◌∷◌, length, get_or}
+use Rattle.std.proofs.Common.{refl, ap, arith, sym, ◌∙◌, add-one, take, set}
+use Rattle.std.specs.List.{zip, list_all}
+use lib.Seq.{take-suc, take-suc-set, take_all}
 use Rattle.semantics.specs.declared.Input.{Input}
 use Rattle.semantics.specs.Spans.{end_of, ends_of, span_taken, spans_taken}
 use Rattle.semantics.proofs.Spans.{ends_length, ends_at}
 
--- ---- the test of those from i on is known to end at z
-module _ (xs : List Input) (ls hs : List ℕ) (i : ℕ) {z : Bool} (inv : spans_taken (drop i xs) (drop i ls) (drop i hs) ≡ z) where
-  module _ (d : Input) (h : i < length xs) (l : i < length ls) (j : i < length hs) {b : Bool} (e : b ≡ span_taken (get_or xs i d) (get_or ls i 0) (get_or hs i 0)) where
-    turn : (b && spans_taken (drop (suc i) xs) (drop (suc i) ls) (drop (suc i) hs)) ≡ z
-    unfolding spans_taken
-    turn = rw e (rw (drop-cons xs i d h, drop-cons ls i 0 l, drop-cons hs i 0 j) at inv)
-
-    pub taken_no : b ≡ false → false ≡ z
-    taken_no g = rw g at turn
-
-    pub taken_next : b ≡ true → spans_taken (drop (i + 1) xs) (drop (i + 1) ls) (drop (i + 1) hs) ≡ z
-    taken_next g = rw add-one (rw g at turn)
-
-  pub taken_all : length xs ≤ i → true ≡ z
-  unfolding spans_taken
-  taken_all h = rw (drop_of_length-le xs h) at inv
+-- ---- the test
+pub taken_pairs : (xs : List Input) (ls hs : List ℕ) → list_all (λ p. span_taken p.0 p.1.0 p.1.1) (zip xs (zip ls hs)) ≡ spans_taken xs ls hs
+unfolding spans_taken
+taken_pairs [] ls hs = refl
+taken_pairs (x ∷ xs) [] hs = refl
+taken_pairs (x ∷ xs) (l ∷ ls) [] = refl
+taken_pairs (x ∷ xs) (l ∷ ls) (h ∷ hs) = ap (λ b. span_taken x l h && b) (taken_pairs xs ls hs)
 
 -- ---- the ends: the first i are in place
 module _ (truth : ℕ) (xs : List Input) (ns : List ℕ) (i : ℕ) (m : List ℕ) (inv : take i m ≡ take i (ends_of truth xs ns)) (long : length xs ≡ length ns) (same : length m ≡ length ns) where

@@ -1,7 +1,7 @@
 -- The list of reports, from the first term on: a report that is put at its term's places reads back, and those of lower terms stay. Assumes nothing.
 use mathlib.Core.Path.{◌≡◌, refl, ap, ◌∙◌}
 use mathlib.Core.List.{List}
-use Prim.Native.Nat.{ℕ, suc, ◌+◌, ◌*◌, ◌%◌, ◌<◌, ◌≤◌}
+use Prim.Native.Nat.{ℕ, suc, ◌+◌, ◌*◌, ◌%◌, ◌<◌}
 use native.Mathlib.Numerals.{add-one}
 use native.Mathlib.Omega.{arith}
 use lib.ListN.{length, get_or, set, length-set}
@@ -16,7 +16,7 @@ use Rattle.semantics.specs.Spans.{report_of, open_report, term_report, report_at
 use Rattle.semantics.proofs.Fold.{fold_length}
 use Rattle.semantics.proofs.Spans.{three_first, three_second, three_third, three_below}
 use Rattle.terms.proofs.Tables.{terms_length}
-use Rattle.reader.proofs.Work.{held_in_lem, held_out, holds_start, holds_next}
+use Rattle.reader.proofs.Work.{held_in_lem, holds_start, holds_next}
 use Rattle.spans.specs.Lists.{held_report, lower_of, Laid, Puts}
 
 -- ---- a report's places
@@ -26,8 +26,6 @@ pub held_parts : (m : List ℕ) (i k : ℕ) → k < i → {l h : ℕ} → l ≡ 
     → report_of (get_or m (report_size * k) 0 % 256) l h ≡ lower_of m i k
 unfolding held_report
 held_parts m i k b el eh = rw (el, eh) (held_in_lem held_report open_report m i k b refl)
-
-pub ruleset lowers = (held_parts, held_out)
 
 -- written
 pub puts : (r : Report) (i : ℕ) (m : List ℕ) {l h : ℕ} → l ≡ r.low → h ≡ r.high → r.sort < 256 → r.low < word_limit → r.high < word_limit
@@ -73,7 +71,3 @@ laid_next {lows} {highs} {s} {w} {i} {m} n {t} {x} {y} {z} {v} g h et ex ey ez e
 
     new : v ≡ term_report lows highs (term_at s i) (report_at rs (term_at s i).a) (report_at rs (term_at s i).b) (report_at rs (term_at s i).c)
     new = rw (← et, ← g.holds.is t.a, ← g.holds.is t.b, ← g.holds.is t.c, ← ex, ← ey, ← ez) ev
-
--- of all
-pub laid_end : (lows highs s w : List ℕ) (i n : ℕ) (m : List ℕ) → Laid lows highs s w i m → i ≤ n → n ≤ i → Laid lows highs s w n m
-laid_end lows highs s w i n m g a b = let e : i ≡ n = omega arith in rw e at g

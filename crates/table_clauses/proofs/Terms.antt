@@ -17,6 +17,7 @@ use Rattle.clauses.specs.Clauses.{owned, term_gates, named_by_b, helpers_of, hel
 use Rattle.clauses.proofs.Laws.{helpers_more, table_more}
 use Rattle.gate_tables.specs.Packed.{packed}
 use Rattle.gate_tables.proofs.Right.{length_packed}
+use Rattle.cursor.specs.declared.Cursor.{Cursor}
 use Rattle.cursor.specs.Sink.{Writes}
 use Rattle.cursor.proofs.Writing.{none_written, onward, said}
 use Rattle.dimacs.specs.Text.{clauses_text}
@@ -46,19 +47,19 @@ unfolding terms_in
 terms_next s n = rw (add-one n)
 
 -- ---- the clauses of the first n terms stand in the buffer
-pub record Through (c : ℕ) (s entry : List ℕ) (a : ℕ) (y : List ℕ) (h m n : ℕ) : Type 0 where
-  pub writes : Writes (clauses_text (table_clauses c (terms_in s n))) entry a y m
+pub record Through (c : ℕ) (s : List ℕ) (entry y : Cursor) (h n : ℕ) : Type 0 where
+  pub writes : Writes (clauses_text (table_clauses c (terms_in s n))) entry y
   pub helper : h ≡ first_helper c (terms_in s n)
   pub low : h ≤ owned * c + 1 + 1024 * n
 
-module _ {c : ℕ} {s entry : List ℕ} {a : ℕ} where
-  pub through_none : Through c s entry a entry (owned * c + 1) a 0
+module _ {c : ℕ} {s : List ℕ} {entry : Cursor} where
+  pub through_none : Through c s entry entry (owned * c + 1) 0
   unfolding terms_in table_clauses clauses_text helpers_in
   through_none = record { writes = none_written; helper = omega arith; low = omega arith }
 
-  pub through_one : {y : List ℕ} {h m n : ℕ} → Through c s entry a y h m n → {t : Term} → t ≡ term_at s n → {u : Term} → u ≡ named_by_b (terms_in s n) t → {z : List ℕ} {e : ℕ}
-      → Writes (gates_text (places_of h n t) (map packed (term_gates t u))) y m z e → {k : ℕ} → k ≡ helpers_of t u → k < 1024 → Through c s entry a z (h + k) e (n + 1)
-  through_one {y} {h} {m} {n} r {t} e {u} eu w {k} q l =
+  pub through_one : {y : Cursor} {h n : ℕ} → Through c s entry y h n → {t : Term} → t ≡ term_at s n → {u : Term} → u ≡ named_by_b (terms_in s n) t → {z : Cursor}
+      → Writes (gates_text (places_of h n t) (map packed (term_gates t u))) y z → {k : ℕ} → k ≡ helpers_of t u → k < 1024 → Through c s entry z (h + k) (n + 1)
+  through_one {y} {h} {n} r {t} e {u} eu w {k} q l =
       let ts = terms_in s n in
       let v = term_at s n in
       let x : u ≡ named_by_b ts v = eu ∙ ap (named_by_b ts) e in
@@ -76,7 +77,7 @@ module _ {c : ℕ} {s entry : List ℕ} {a : ℕ} where
         low = omega arith;
       }
 
-  pub through_all : {y : List ℕ} {h m n : ℕ} → Through c s entry a y h m n → n ≡ c → Writes (clauses_text (table_clauses c (terms_in s c))) entry a y m
+  pub through_all : {y : Cursor} {h n : ℕ} → Through c s entry y h n → n ≡ c → Writes (clauses_text (table_clauses c (terms_in s c))) entry y
   through_all r e = said r.writes (ap (λ n. clauses_text (table_clauses c (terms_in s n))) e)
 
 -- ---- counts

@@ -10,6 +10,7 @@ ghost use Rattle.dimacs.specs.Text.{clauses_text};
 ghost use Rattle.gates.specs.Slots.{gates_text};
 ghost use Rattle.table_clauses.specs.Totals.{TotalsOf};
 
+use cursor::Cursor;
 use gates::{OWNED, Places};
 use semantics::Term;
 
@@ -21,56 +22,47 @@ pub struct Totals {
 }
 
 // A term's clauses, where its b names u.
-pub fn put_term(buffer: &mut [u8], at: usize, p: Places, t: Term, u: Term) -> usize
-    ensures { Writes (gates_text p (map packed (term_gates t u))) buffer.old at buffer.new result }
+pub fn put_term(out: &mut Cursor, p: Places, t: Term, u: Term)
+    ensures { Writes (gates_text p (map packed (term_gates t u))) out.old out.new }
 {
-    let n = term_gates::gate_count(t, u);
-    let mut end = at;
-    let mut i: u16 = 0;
-    while i < n {
-        end = gates::put_gate(buffer, end, p, term_gates::gate_at(t, u, i));
-        i += 1;
+    for i in 0..term_gates::gate_count(t, u) {
+        gates::put_gate(out, p, term_gates::gate_at(t, u, i));
     }
-    end
 }
 
 // The clauses of all terms, in their order.
-pub fn put_terms(buffer: &mut [u8], at: usize, table: &[u8], count: u16) -> usize
-    ensures { Writes (clauses_text (table_clauses count (terms_in table.now count))) buffer.old at buffer.new result }
+pub fn put_terms(out: &mut Cursor, table: &[u8], count: u16)
+    ensures { Writes (clauses_text (table_clauses count (terms_in table.now count))) out.old out.new }
 {
-    let mut h: u32 = OWNED as u32 * count as u32 + 1;
-    let mut end = at;
-    let mut n: u16 = 0;
-    while n < count {
-        let t = records::term_at(table, n);
-        let u = terms::term(table, n, t.b);
+    let mut helpers = OWNED as u32 * u32::from(count) + 1;
+    for own in 0..count {
+        let t = records::term_at(table, own);
+        let u = terms::term(table, own, t.b);
         let p = Places {
-            helpers: h,
-            own: n,
+            helpers,
+            own,
             a: t.a,
             b: t.b,
             c: t.c,
         };
-        end = put_term(buffer, end, p, t, u);
-        h = h + term_gates::helper_count(t, u) as u32;
-        n += 1;
+        put_term(out, p, t, u);
+        helpers += u32::from(term_gates::helper_count(t, u));
     }
-    end
 }
 
 // How many helpers and clauses all terms have.
 pub fn add_up(table: &[u8], count: u16) -> Totals
     ensures { TotalsOf (terms_in table.now count) count result.helpers result.clauses }
 {
-    let mut helpers: u32 = 0;
-    let mut clauses: u32 = 0;
-    let mut n: u16 = 0;
-    while n < count {
+    let mut totals = Totals {
+        helpers: 0,
+        clauses: 0,
+    };
+    for n in 0..count {
         let t = records::term_at(table, n);
         let u = terms::term(table, n, t.b);
-        helpers = helpers + term_gates::helper_count(t, u) as u32;
-        clauses = clauses + term_gates::clause_count(t, u) as u32;
-        n += 1;
+        totals.helpers += u32::from(term_gates::helper_count(t, u));
+        totals.clauses += u32::from(term_gates::clause_count(t, u));
     }
-    Totals { helpers, clauses }
+    totals
 }

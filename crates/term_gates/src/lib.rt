@@ -26,22 +26,20 @@ const ONE_WORD: u64 = 2306757830805291011;
 const NONE: u64 = 20485;
 
 // The gates of a kind and of the bits of w.
+#[tactic(auto, using(crate::proofs::Numbered::kind_bit, crate::proofs::Numbered::kind_past))]
 fn bits_gate(first: bool, second: bool, w: Word, i: u16) -> u64
     ensures { result ≡ get_or (map packed (kinds first second (digits 2 width w))) i 0 }
 {
     match i {
-        0 => operators::bit(first) as u64 + 32768,
-        1 => operators::bit(second) as u64 + 32784,
-        _ => {
-            if i < OWNED {
-                return ((w >> (i - 2)) % 2) as u64 + 16 * (2048 + i as u64);
-            }
-            0
-        }
+        0 => u64::from(operators::bit(first)) + 32768,
+        1 => u64::from(operators::bit(second)) + 32784,
+        _ if i < OWNED => u64::from((w >> (i - 2)) % 2) + 16 * (2048 + u64::from(i)),
+        _ => 0,
     }
 }
 
 // All but the lowest bit are fixed.
+#[tactic(auto, using(crate::proofs::Numbered::free_kind, crate::proofs::Numbered::free_bit, crate::proofs::Numbered::free_past))]
 fn free_truth_gate(i: u16) -> u64
     ensures { result ≡ get_or (map packed (kinds false false (digits 3 (width - 1) 0))) i 0 }
 {
@@ -55,6 +53,7 @@ fn free_truth_gate(i: u16) -> u64
 }
 
 // The gates of a kind alone.
+#[tactic(auto, using(crate::proofs::Numbered::alone, crate::proofs::Numbered::alone_past))]
 fn kind_gate(first: bool, second: bool, i: u16) -> u64
     ensures { result ≡ get_or (map packed (kinds first second [])) i 0 }
 {
@@ -64,11 +63,12 @@ fn kind_gate(first: bool, second: bool, i: u16) -> u64
     0
 }
 
+#[tactic(auto, using(crate::proofs::Numbered::choice_at, crate::proofs::Numbered::choice_past))]
 fn choice_gate(i: u16) -> u64
     ensures { result ≡ get_or (map packed (choices 0 owned)) i 0 }
 {
     if i < OWNED {
-        let k = i as u64;
+        let k = u64::from(i);
         return 9
             + 16 * (2048 + k + 16384 * (8196 + 32768 * (12288 + 2 * k + 32768 * (16384 + 2 * k))));
     }
@@ -76,32 +76,36 @@ fn choice_gate(i: u16) -> u64
 }
 
 // What bit j is after a shift by w: another bit of the operand, or none.
+#[tactic(auto, using(notation::proofs::Follow::values), unfolding(crate::specs::Moved::moved_literal))]
 fn moved(up: bool, w: Word, j: u16) -> u64
     ensures { (result ≡ moved_literal up w j) × (result < 32768) }
 {
-    if j < WIDTH as u16 {
-        if up {
-            if j < w as u16 {
-                return NONE;
-            }
-            return 2 * (4098 + (j - w as u16) as u64);
+    if j >= WIDTH {
+        return NONE;
+    }
+    if up {
+        if j < w {
+            return NONE;
         }
-        if (w as u16) < WIDTH as u16 - j {
-            return 2 * (4098 + (j + w as u16) as u64);
-        }
+        return 2 * (4098 + u64::from(j - w));
+    }
+    if w < WIDTH - j {
+        return 2 * (4098 + u64::from(j + w));
     }
     NONE
 }
 
 // The gate of bit j of a shift by w.
+#[tactic(auto, using(notation::proofs::Follow::values), unfolding(crate::specs::Moved::moved_gate))]
 fn moved_gate(up: bool, w: Word, j: u16) -> u64
     ensures { result ≡ moved_gate up w j }
 {
     let l = moved(up, w, j);
-    3 + 16 * (2050 + j as u64 + 16384 * (32768 * (l + 32768 * l)))
+    3 + 16 * (2050 + u64::from(j) + 16384 * (32768 * (l + 32768 * l)))
 }
 
 // The gates of a shift by a constant, up or down.
+#[tactic(auto, using(crate::proofs::Moving::shift_kind, crate::proofs::Moving::shift_guard, crate::proofs::Moving::shift_bit, crate::proofs::Moving::shift_past))]
 fn shift_gate(up: bool, w: Word, i: u16) -> u64
     ensures { result ≡ get_or (map packed (shift_by_gates levels (shifted up) w)) i 0 }
 {
@@ -118,16 +122,11 @@ fn shift_gate(up: bool, w: Word, i: u16) -> u64
 }
 
 // The code is a shift and u a word constant.
+#[tactic(auto, using(notation::proofs::Follow::tests), unfolding(crate::specs::Moved::by_constant))]
 fn by_constant(op: u8, u: Term) -> bool
     ensures { result ≡ by_constant op u }
 {
-    if u.kind == numbers::WORD_TERM {
-        if op == numbers::LEFT_CODE {
-            return true;
-        }
-        return op == numbers::RIGHT_CODE;
-    }
-    false
+    u.kind == numbers::WORD_TERM && (op == numbers::LEFT_CODE || op == numbers::RIGHT_CODE)
 }
 
 // An operator term's gate, over the term that its b names.
@@ -144,8 +143,7 @@ fn operation_gate(op: u8, u: Term, i: u16) -> u64
 pub fn gate_at(t: Term, u: Term, i: u16) -> u64
     ensures { result ≡ get_or (map packed (term_gates t u)) i 0 }
 {
-    let k = t.kind;
-    match k {
+    match t.kind {
         numbers::TRUTH_TERM => bits_gate(false, false, t.a, i),
         numbers::WORD_TERM => bits_gate(true, false, words::join(t.a, t.b), i),
         numbers::FREE_TRUTH_TERM => free_truth_gate(i),
@@ -176,11 +174,11 @@ fn operation_clause_count(op: u8, u: Term) -> u16
 }
 
 // How many gates a term has.
+// `gate_at` and the two counts match the kind each, as `term_gates` does: one list of a kind's gates would need the heap.
 pub fn gate_count(t: Term, u: Term) -> u16
     ensures { result ≡ length (term_gates t u) }
 {
-    let k = t.kind;
-    match k {
+    match t.kind {
         numbers::TRUTH_TERM => OWNED,
         numbers::WORD_TERM => OWNED,
         numbers::FREE_TRUTH_TERM => OWNED - 1,
@@ -196,22 +194,20 @@ pub fn gate_count(t: Term, u: Term) -> u16
 pub fn helper_count(t: Term, u: Term) -> u16
     ensures { (result ≡ helpers_of t u) × (result < 1024) }
 {
-    let k = t.kind;
-    if k == numbers::OPERATOR_TERM {
-        if by_constant(t.op, u) {
-            return 1;
-        }
-        return gate_tables::helper_count(t.op);
+    if t.kind != numbers::OPERATOR_TERM {
+        return 0;
     }
-    0
+    if by_constant(t.op, u) {
+        return 1;
+    }
+    gate_tables::helper_count(t.op)
 }
 
 // How many clauses.
 pub fn clause_count(t: Term, u: Term) -> u16
     ensures { result ≡ length (clauses (term_gates t u)) }
 {
-    let k = t.kind;
-    match k {
+    match t.kind {
         numbers::TRUTH_TERM => OWNED,
         numbers::WORD_TERM => OWNED,
         numbers::FREE_TRUTH_TERM => OWNED - 1,

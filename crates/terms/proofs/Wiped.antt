@@ -10,9 +10,19 @@ use lib.Dec.{ltb}
 use borrow.Author.Tests.{ltb-true, ltb-false}
 use Rattle.slices.specs.Wiped.{wiped}
 use Rattle.terms.specs.Gives.{OnlyAppends}
+use Rattle.terms.specs.declared.table.Table.{Table}
 
--- a table with room for n terms, zero after them, on which steps were taken
-module _ (s y : List ℕ) (n m : ℕ) (g : OnlyAppends s n y m) (room : n * 8 ≤ length s) (tail : (k : ℕ) → n * 8 ≤ k → get_or s k 0 ≡ 0) where
+-- a table with room for its terms, zero after them, on which steps were taken
+module _ (t z : Table) (g : OnlyAppends t z) (room : t.count * 8 ≤ length t.bytes.now) (tail : (k : ℕ) → t.count * 8 ≤ k → get_or t.bytes.now k 0 ≡ 0) where
+  abbrev s : List ℕ
+  s = t.bytes.now
+
+  abbrev y : List ℕ
+  y = z.bytes.now
+
+  abbrev n : ℕ
+  n = t.count
+
   long : length (take (n * 8) y) ≡ n * 8
   long = let l = g.long in length-take-le (n * 8) y (omega arith)
 

@@ -2,6 +2,8 @@
 -- what document 01's `find_of` finds, since a term names only lower ones and none is repeated. Assumes nothing.
 use Rattle.std.specs.Prelude.{ℕ, ◌+◌, max, true, false, List, [], ◌∷◌, ltb, length}
 use Rattle.notation.specs.Notation.{pick, with, if◌equals◌then◌else◌}
+use Rattle.std.specs.declared.option.Option.{Option}
+use Rattle.std.specs.declared.option.Option.TheVariants.{None, Some}
 use Rattle.semantics.specs.declared.Term.{Term}
 use Rattle.semantics.specs.declared.Found.{Found}
 use Rattle.semantics.specs.Numbers.{operator_term, choice_term, procedure_term, binding_term, no_binding}
@@ -19,6 +21,11 @@ floor_of t =
 
 abbrev pub missing : Found
 missing = record { is = false; at = 0 }
+
+-- a number that the code found, or none
+abbrev pub found_of : Option ℕ → Found
+found_of None = missing
+found_of (Some i) = record { is = true; at = i }
 
 -- the oldest term equal to t among those with numbers from low on
 unfoldable pub find_from : ℕ → List Term → Term → Found

@@ -4,23 +4,17 @@
 // the room itself.
 #![tactic(auto)]
 
+mod table;
+
 ghost use Rattle.std.specs.Prelude.{◌≡◌, ◌-◌, ◌/◌, max, min, length};
 ghost use Rattle.semantics.specs.Terms.{word_term_of, term_word, truth_number, terms_in, at as «term-number», same_of, sort_of, known_of};
 ghost use Rattle.semantics.specs.Terms.{names_truth, names_value};
-ghost use Rattle.semantics.specs.Steps.{give, make_of};
-ghost use Rattle.terms.specs.Search.{floor_of, find_from};
-ghost use Rattle.terms.specs.Gives.{Makes};
+ghost use Rattle.terms.specs.Search.{floor_of, find_from, found_of};
+ghost use Rattle.terms.specs.Known.{known_number};
 
-use semantics::{Found, Term, numbers};
+use semantics::{Term, numbers};
+pub use table::Table;
 use words::Word;
-
-// The number of a term in a table that then has `count` terms; or a refusal, where it is not 0.
-#[derive(Clone, Copy)]
-pub struct Made {
-    pub refusal: u8,
-    pub count: u16,
-    pub number: u16,
-}
 
 // Term i of a table with `count` terms; a blank one where there is none.
 pub fn term(table: &[u8], count: u16, i: u16) -> Term
@@ -73,8 +67,7 @@ pub fn truth_number(w: Word) -> u16
 pub fn sort(t: Term) -> u8
     ensures { result ≡ sort_of t }
 {
-    let kind = t.kind;
-    match kind {
+    match t.kind {
         numbers::TRUTH_TERM => numbers::TRUTH_TERM,
         numbers::WORD_TERM => numbers::WORD_TERM,
         numbers::FREE_TRUTH_TERM => numbers::TRUTH_TERM,
@@ -97,23 +90,19 @@ pub fn sort_at(table: &[u8], count: u16, i: u16) -> u8
     sort(term(table, count, i))
 }
 
-// Whether a term is a truth constant, and which.
-fn constant(t: Term) -> u8
-    ensures { result ≡ known_of t }
+// Which truth a term is, where it is a constant one.
+fn constant(t: Term) -> Option<bool>
+    ensures { known_number result ≡ known_of t }
 {
     if t.kind == numbers::TRUTH_TERM {
-        if t.a == 0 {
-            numbers::KNOWN_FALSE
-        } else {
-            numbers::KNOWN_TRUE
-        }
+        if t.a == 0 { Some(false) } else { Some(true) }
     } else {
-        numbers::UNKNOWN
+        None
     }
 }
 
-pub fn known(table: &[u8], count: u16, i: u16) -> u8
-    ensures { result ≡ known_of («term-number» (terms_in table.now count) i) }
+pub fn known(table: &[u8], count: u16, i: u16) -> Option<bool>
+    ensures { known_number result ≡ known_of («term-number» (terms_in table.now count) i) }
 {
     constant(term(table, count, i))
 }
@@ -121,47 +110,19 @@ pub fn known(table: &[u8], count: u16, i: u16) -> u8
 pub fn same(x: Term, y: Term) -> bool
     ensures { result ≡ same_of x y }
 {
-    if x.a == y.a {
-        if x.kind == y.kind {
-            if x.op == y.op {
-                if x.b == y.b { x.c == y.c } else { false }
-            } else {
-                false
-            }
-        } else {
-            false
-        }
-    } else {
-        false
-    }
-}
-
-fn wide(x: u16) -> usize
-    ensures { result ≡ x }
-{
-    x as usize
-}
-
-fn larger(a: u16, b: u16) -> u16
-    ensures { result ≡ max a b }
-{
-    if a < b { b } else { a }
+    x.a == y.a && (x.kind == y.kind && (x.op == y.op && (x.b == y.b && x.c == y.c)))
 }
 
 // The number from which on a term equal to t can stand: a term names only lower ones.
 fn floor(t: Term) -> usize
     ensures { result ≡ floor_of t }
 {
-    let kind = t.kind;
-    match kind {
-        numbers::OPERATOR_TERM => larger(t.a, t.b) as usize + 1,
-        numbers::CHOICE_TERM => larger(larger(t.a, t.b), t.c) as usize + 1,
+    match t.kind {
+        numbers::OPERATOR_TERM => t.a.max(t.b) as usize + 1,
+        numbers::CHOICE_TERM => t.a.max(t.b).max(t.c) as usize + 1,
         numbers::PROCEDURE_TERM => t.b as usize + 1,
-        numbers::BINDING_TERM => if t.b == numbers::NO_BINDING {
-            t.a as usize + 1
-        } else {
-            larger(t.a, t.b) as usize + 1
-        },
+        numbers::BINDING_TERM if t.b == numbers::NO_BINDING => t.a as usize + 1,
+        numbers::BINDING_TERM => t.a.max(t.b) as usize + 1,
         _ => 0,
     }
 }
@@ -170,24 +131,16 @@ fn floor(t: Term) -> usize
 fn whole_records(table: &[u8], count: u16) -> usize
     ensures { result ≡ min count (length table.now / 8) }
 {
-    let n = table.len() / 8;
-    if n < wide(count) { n } else { wide(count) }
-}
-
-// One less; 0 of 0.
-fn one_less(n: usize) -> usize
-    ensures { result ≡ n - 1 }
-{
-    if n == 0 { 0 } else { n - 1 }
+    (table.len() / 8).min(count as usize)
 }
 
 // The oldest term equal to t above its largest operand. It is searched for upward, since it often stands right after
 // that operand. In a record that lies whole in the table one byte of `a` tells most others apart: two at a turn are
 // passed by it, so that the turn's own work counts less.
-pub fn find(table: &[u8], count: u16, t: Term) -> Found
-    ensures { result ≡ find_from (floor_of t) (terms_in table.now count) t }
+pub fn find(table: &[u8], count: u16, t: Term) -> Option<u16>
+    ensures { found_of result ≡ find_from (floor_of t) (terms_in table.now count) t }
 {
-    let last = one_less(whole_records(table, count));
+    let last = whole_records(table, count).saturating_sub(1);
     let low = (t.a % 256) as u8;
     let mut i = floor(t);
     while i < last {
@@ -200,64 +153,18 @@ pub fn find(table: &[u8], count: u16, t: Term) -> Found
         }
         let at = i as u16;
         if same(records::term_at(table, at), t) {
-            return Found { is: true, at: at };
+            return Some(at);
         }
         i = next;
     }
-    while i < wide(count) {
+    while i < count as usize {
         let at = i as u16;
         if same(records::term_at(table, at), t) {
-            return Found { is: true, at: at };
+            return Some(at);
         }
         i += 1;
     }
-    Found { is: false, at: 0 }
-}
-
-// The number of a term that is there already: nothing is made. The table is lent so that the contract can speak of it.
-pub fn present(table: &[u8], count: u16, number: u16) -> Made
-    ensures { Makes (give number) table.now count result table.now }
-{
-    Made {
-        refusal: 0,
-        count: count,
-        number: number,
-    }
-}
-
-// A term equal to one present takes that number; another takes the next, unless the table is full.
-pub fn make(table: &mut [u8], count: u16, t: Term) -> Made
-    ensures { Makes (make_of t) table.old count result table.new }
-{
-    let found = find(table, count, t);
-    if found.is {
-        return Made {
-            refusal: 0,
-            count: count,
-            number: found.at,
-        };
-    }
-    if count >= numbers::TERM_LIMIT {
-        return Made {
-            refusal: numbers::TABLE_FULL,
-            count: count,
-            number: 0,
-        };
-    }
-    let at = (count as usize) * 8;
-    if table.len() < at + 8 {
-        return Made {
-            refusal: numbers::TABLE_FULL,
-            count: count,
-            number: 0,
-        };
-    }
-    fields::write(&mut table[at..], t.kind, t.op, t.a, t.b, t.c);
-    Made {
-        refusal: 0,
-        count: count + 1,
-        number: count,
-    }
+    None
 }
 
 // Whether a number names a truth among the first n terms.
@@ -271,9 +178,9 @@ pub fn names_truth(table: &[u8], n: u16, x: u16) -> bool
 pub fn names_value(table: &[u8], n: u16, x: u16) -> bool
     ensures { result ≡ names_value (terms_in table.now n) x }
 {
-    let k = sort_at(table, n, x);
-    if k == 0 {
+    let sort = sort_at(table, n, x);
+    if sort == 0 {
         return false;
     }
-    k != numbers::BINDING_TERM
+    sort != numbers::BINDING_TERM
 }

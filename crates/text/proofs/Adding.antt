@@ -1,12 +1,11 @@
 -- Text added to a buffer: a byte more, and one text after another. Assumes nothing.
 use mathlib.Core.Path.{◌≡◌, refl, sym}
-use mathlib.Core.List.{List, [], ◌∷◌, ◌++◌, append_assoc, append-nil}
+use mathlib.Core.List.{List, [], ◌∷◌, ◌++◌, append_assoc}
 use Prim.Native.Nat.{ℕ, suc, ◌+◌, ◌*◌, ◌<◌, ◌≤◌}
-use native.Mathlib.Nat.{add-zero}
 use native.Mathlib.Numerals.{add-one}
 use native.Mathlib.Omega.{arith}
-use lib.ListN.{length, take, drop, get_or, set, drop_of_length-le}
-use lib.Seq.{length-take-le, take-suc, drop-cons, take-suc-set, take-length}
+use lib.ListN.{length, take, drop, get_or, drop_of_length-le}
+use lib.Seq.{length-take-le, drop-cons}
 use Rattle.text.specs.Text.{space, line_feed, decimal_of, joined, numbers_text}
 use Rattle.text.specs.Appends.{number_bytes, Appends, Writes}
 
@@ -19,23 +18,6 @@ both_added p q =
 -- a text from the start on, in a buffer that has room for it
 pub written : {m : ℕ} {t s y : List ℕ} {r : ℕ} → m ≤ length y → Appends m t s 0 y r → Writes t y r
 written {y = y} {r} h p = let a = p.high in let b : r ≤ length y = omega arith in record { counts = (b, sym (length-take-le r y b)); is = p.is }
-
--- The first i of the bytes b stand in y, after the first `at` of s.
-pub record Copied (s : List ℕ) (at : ℕ) (b y : List ℕ) (i : ℕ) : Type 0 where
-  pub is : take (at + i) y ≡ take at s ++ take i b
-
-module _ {s : List ℕ} {at : ℕ} {b : List ℕ} where
-  pub none_copied : Copied s at b s 0
-  none_copied = record { is = rw (add-zero at, append-nil) }
-
-  pub one_copied : {y : List ℕ} {i : ℕ} → Copied s at b y i → i < length b → at + i < length y → Copied s at b (set y (at + i) (get_or b i 0)) (i + 1)
-  one_copied {y} {i} h l k =
-      let e : at + (i + 1) ≡ suc (at + i) = omega arith in
-      record { is = rw (e, take-suc-set, h.is, add-one, take-suc b i 0, append_assoc) }
-
-  pub all_copied : {y : List ℕ} {i : ℕ} → Copied s at b y i → i ≡ length b → Appends (length b) b s at y (at + length b)
-  all_copied {y} {i} h e =
-      record { is = rw (take-length b) at (rw e at h.is); low = omega arith; high = omega arith }
 
 -- ---- numbers that are put one by one
 text_cons : (ns : List ℕ) (i : ℕ) → i + 1 < length ns → numbers_text (drop i ns) ≡ (decimal_of (get_or ns i 0) ++ (space ∷ [])) ++ numbers_text (drop (i + 1) ns)

@@ -18,10 +18,9 @@ pub fn put_bytes(out: &mut [u8], at: usize, bytes: &[u8]) -> usize
     requires { at + length bytes.now ≤ length out.old }
     ensures { Appends (length bytes.now) bytes.now out.old at out.new result }
 {
-    for i in 0..bytes.len() {
-        out[at + i] = bytes[i];
-    }
-    at + bytes.len()
+    let end = at + bytes.len();
+    out[at..end].copy_from_slice(bytes);
+    end
 }
 
 // The digits of a number in base ten, of which there are at most 5.
@@ -50,6 +49,7 @@ pub fn put_numbers(out: &mut [u8], at: usize, numbers: &[u16]) -> usize
 {
     let last = numbers.len() - 1;
     let mut end = at;
+    // By index: the last number, which has another byte after it, is taken out of the same slice.
     for i in 0..last {
         end = put_number(out, end, numbers[i], SPACE);
     }

@@ -49,9 +49,7 @@ fn mark_down(table: &[u8], count: u16, work: &mut [Place])
     requires { count ≤ length work.old }
     ensures { Sets (down_from (terms_in table.now count)) work.old work.new }
 {
-    let mut i: u16 = count;
-    while 0 < i {
-        i -= 1;
+    for i in (0..count).rev() {
         if is_marked(work[i as usize]) {
             mark_lower(i, records::term_at(table, i), work);
         }
@@ -68,41 +66,39 @@ fn mark_lower(i: u16, t: Term, work: &mut [Place])
     mark(from_third(t), i, t.c, work);
 }
 
-// Marks term k, where it is asked for and below i.
+// Marks term k, where it is asked for and below i. A struct of the list and the bound would be no plainer: it would have to be
+// made for each term, with that term as the bound.
 fn mark(asked: bool, i: u16, k: u16, work: &mut [Place])
     requires { i ≤ length work.old }
     ensures { Sets (with_term asked i k) work.old work.new }
 {
-    if asked {
-        if k < i {
-            work[k as usize] = MARK;
-        }
+    if asked && k < i {
+        work[k as usize] = MARK;
     }
 }
 
 // An operator's first operand, and a choice's guard.
+#[tactic(auto, using(notation::proofs::Follow::tests), unfolding(semantics::specs::Under::from_first))]
 fn from_first(t: Term) -> bool
     ensures { result ≡ from_first t }
 {
-    if t.kind == numbers::OPERATOR_TERM {
-        true
-    } else {
-        t.kind == numbers::CHOICE_TERM
-    }
+    t.kind == numbers::OPERATOR_TERM || t.kind == numbers::CHOICE_TERM
 }
 
 // An operator's second operand, where it has one, and a choice's first side.
+#[tactic(auto, using(notation::proofs::Follow::tests), unfolding(semantics::specs::Under::from_second))]
 fn from_second(t: Term) -> bool
     ensures { result ≡ from_second t }
 {
-    if t.kind == numbers::OPERATOR_TERM {
-        operators::operands(t.op) != 1
-    } else {
-        t.kind == numbers::CHOICE_TERM
+    match t.kind {
+        numbers::OPERATOR_TERM => operators::operands(t.op) != 1,
+        numbers::CHOICE_TERM => true,
+        _ => false,
     }
 }
 
 // A choice's other side.
+#[tactic(auto, using(notation::proofs::Follow::tests), unfolding(semantics::specs::Under::from_third))]
 fn from_third(t: Term) -> bool
     ensures { result ≡ from_third t }
 {

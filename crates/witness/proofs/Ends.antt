@@ -1,27 +1,28 @@
 -- The box from the least numbers to the greatest, and the same narrowed to the inputs that a result stands on. Assumes nothing.
 use mathlib.Core.Path.{◌≡◌, refl, sym, ap, subst, ◌∙◌}
 use mathlib.Core.Logic.{◌⊎◌, inl, inr}
-use mathlib.Core.Bool.{Bool, true, false, false≢true}
+use mathlib.Core.Bool.{Bool, true, false}
 use mathlib.Core.List.{List, [], ◌∷◌}
 use Prim.Native.Nat.{ℕ, zero, suc, ◌+◌, ◌<◌, ◌≤◌}
 use native.Mathlib.Omega.{arith}
-use lib.Dec.{eqb, leb}
+use lib.Dec.{eqb, leb, ltb}
 use lib.ListN.{length, get_or, set, replicate, length-set, length-replicate}
 use lib.Seq.{get_or-set_same, get_or-set_other}
-use borrow.Author.Tests.{eqb-true, eqb-false, leb-true, leb-false}
-use Rattle.notation.specs.Notation.{pick, with, when◌then◌else◌, if◌equals◌then◌else◌}
+use borrow.Author.Tests.{eqb-true, eqb-false, leb-true, leb-false, ltb-true, lt-ltb}
+use Rattle.notation.specs.Notation.{pick, with, when◌then◌else◌, if◌equals◌then◌else◌, if◌below◌then◌else◌}
 use Rattle.words.specs.Words.{word_limit, last_word}
 use Rattle.semantics.specs.declared.Term.{Term}
 use Rattle.semantics.specs.declared.Goal.{Goal}
-use Rattle.semantics.specs.declared.Hit.{Hit}
+use Rattle.std.specs.declared.option.Option.{Option}
+use Rattle.std.specs.declared.option.Option.TheVariants.{None, Some}
 use Rattle.semantics.specs.declared.Input.{Input}
 use Rattle.semantics.specs.declared.Result.{Result}
 use Rattle.semantics.specs.declared.Session.{Session}
 use Rattle.semantics.specs.Numbers.{free_truth_term, free_truth, free_word, input_count}
-use Rattle.semantics.specs.Terms.{term_at, terms_in, laid_out, at}
+use Rattle.semantics.specs.Terms.{term_at, terms_in, laid_out}
 use Rattle.semantics.specs.Fits.{fits_of}
 use Rattle.semantics.specs.Spans.{end_of, ends_of, span_taken, spans_taken}
-use Rattle.firsts.specs.Witness.{reached_at, hit_of, first_reached, least_of, greatest_of, spans_fit}
+use Rattle.firsts.specs.Witness.{reached_at, first_reached, least_of, greatest_of, spans_fit}
 use Rattle.semantics.proofs.Fold.{Each}
 use Rattle.semantics.proofs.Spans.{ends_at, ends_length}
 use Rattle.terms.proofs.Tables.{terms_length, at_low}
@@ -38,6 +39,7 @@ use Rattle.firsts.proofs.Ends.{past, given, same_at, lasts_word}
 use Rattle.firsts.proofs.Nested.{first_nested}
 use Rattle.firsts.proofs.Boxes.{Narrowed, box_narrow}
 use Rattle.firsts.proofs.Stood.{NotNamed, reached_apart}
+use Rattle.witness.specs.Told.{numbers_of}
 use Rattle.witness.specs.Search.{Ordered, is_free, named_input, Stood, SearchedFor, Searched}
 use Rattle.witness.proofs.Halves.{ready_lower}
 
@@ -153,12 +155,6 @@ module _ (x : Session) (s : List ℕ) (r : Result) (spanned : Bool) (lows highs 
 
 -- ---- the inputs that the result stands on
 module _ (s lows highs m : List ℕ) where
-  pub stood_start : Stood s lows highs m 0 lows
-  stood_start = record { long = refl; either = λ i l. inr (refl, λ k h. absurd (omega arith)) }
-
-  pub stood_end : (i n : ℕ) (ts : List ℕ) → Stood s lows highs m i ts → i ≤ n → n ≤ i → Stood s lows highs m n ts
-  stood_end i n ts g a b = let e : i ≡ n = omega arith in rw e at g
-
   module _ (n : ℕ) {ts : List ℕ} (g : Stood s lows highs m n ts) where
     -- a term that names no more inputs
     stood_over : ((i : ℕ) → i < input_count → mark_in m n ≡ true → is_free (term_at s n) ≡ true → (term_at s n).a ≡ i → ⊥) → Stood s lows highs m (n + 1) ts
@@ -194,32 +190,29 @@ module _ (s lows highs m : List ℕ) where
                 last k h true w = λ p f z. eqb-false i a q (sym (subst (λ j. (term_at s j).a ≡ i) (eqb-true k n w) z) ∙ named)
                 last k h false w = e.1 k (omega (arith, eqb-false k n w))
 
-    module _ {t : Term} (et : t ≡ term_at s n) {a : ℕ} (ea : a ≡ named_input (get_or m n 0) t) where
-      -- of a marked free input's term a is the input, else 16
-      named : (a ≡ t.a) ⊎ ((a ≡ input_count) × (mark_in m n ≡ true → is_free (term_at s n) ≡ true → ⊥))
-      unfolding named_input with when◌then◌else◌
-      named = go (mark_in m n) (is_free t) refl refl
-        where
-          go : (b c : Bool) → mark_in m n ≡ b → is_free t ≡ c → (a ≡ t.a) ⊎ ((a ≡ input_count) × (mark_in m n ≡ true → is_free (term_at s n) ≡ true → ⊥))
-          go true true p q = inl (ea ∙ rw (p, q))
-          go true false p q = inr (ea ∙ rw (p, q), λ k f. false≢true (sym q ∙ (ap is_free et ∙ f)))
-          go false c p q = inr (ea ∙ rw p, λ k. absurd (false≢true (sym p ∙ k)))
+    -- a term whose place is not marked, that is not free, or that names no input
+    unnamed : {t : Term} → t ≡ term_at s n → None ≡ named_input (get_or m n 0) t → (i : ℕ) → i < input_count → mark_in m n ≡ true → is_free (term_at s n) ≡ true → (term_at s n).a ≡ i → ⊥
+    unfolding named_input with when◌then◌else◌ if◌below◌then◌else◌
+    unnamed {t} et e i l k f z = let q : None ≡ Some (term_at s n).a = e ∙ rw (et, k, f, lt-ltb (term_at s n).a input_count (omega arith)) in cc
 
-      -- an input
-      pub stood_more : a < input_count → length lows ≡ input_count → Stood s lows highs m (n + 1) (set ts a (get_or highs a 0))
-      stood_more small long = go named
-        where
-          go : (a ≡ t.a) ⊎ ((a ≡ input_count) × (mark_in m n ≡ true → is_free (term_at s n) ≡ true → ⊥)) → Stood s lows highs m (n + 1) (set ts a (get_or highs a 0))
-          go (inl e) = let l = g.long in stood_next et e small (omega arith)
-          go (inr e) = let q = e.0 in absurd (omega arith)
+    pub stood_none : {t : Term} {o : Option ℕ} → t ≡ term_at s n → o ≡ named_input (get_or m n 0) t → o ≡ None → Stood s lows highs m (n + 1) ts
+    stood_none et eo e = stood_over (unnamed et (sym e ∙ eo))
 
-      -- none
-      pub stood_none : input_count ≤ a → Stood s lows highs m (n + 1) ts
-      stood_none large = go named
-        where
-          go : (a ≡ t.a) ⊎ ((a ≡ input_count) × (mark_in m n ≡ true → is_free (term_at s n) ≡ true → ⊥)) → Stood s lows highs m (n + 1) ts
-          go (inl e) = stood_over (λ i l k f z. let w : t.a ≡ i = ap (λ (v : Term). v.a) et ∙ z in omega arith)
-          go (inr e) = stood_over (λ i l k f z. e.1 k f)
+    -- the input is the term's
+    is_named : (t : Term) {a : ℕ} → Some a ≡ named_input (get_or m n 0) t → (a ≡ t.a) × (a < input_count)
+    unfolding named_input with when◌then◌else◌ if◌below◌then◌else◌
+    is_named t {a} = go (mark_in m n) (is_free t) (ltb t.a input_count) refl
+      where
+        go : (b c d : Bool) → ltb t.a input_count ≡ d → Some a ≡ pick b (pick c (pick d (Some t.a) None) None) None → (a ≡ t.a) × (a < input_count)
+        go true true true q e = let i : a ≡ t.a = cc in let l = ltb-true t.a input_count q in (i, omega arith)
+        go true true false q e = cc
+        go true false d q e = cc
+        go false c d q e = cc
+
+    pub stood_more : {t : Term} {o : Option ℕ} {a : ℕ} → t ≡ term_at s n → o ≡ named_input (get_or m n 0) t → o ≡ Some a → length lows ≡ input_count → Stood s lows highs m (n + 1) (set ts a (get_or highs a 0))
+    stood_more et eo e long =
+        let z = is_named _ (sym e ∙ eo) in let l = g.long in
+        stood_next et z.0 z.1 (omega arith)
 
 -- ---- a search of the narrowed box is one of the whole
 module _ (s : List ℕ) (count : ℕ) (r : Result) (g : Goal) {ls hs work ts : List ℕ} (nl : length ls ≡ input_count) (nh : length hs ≡ input_count) (f : SearchedFor s count r ls hs work)
@@ -241,8 +234,8 @@ module _ (s : List ℕ) (count : ℕ) (r : Result) (g : Goal) {ls hs work ts : L
           pick_one (inl e) = (omega (arith, e, o), omega (arith, e))
           pick_one (inr e) = (omega (arith, e.0), omega (arith, e.0, o))
 
-  pub narrow_for : SearchedFor s count r ls ts work
-  narrow_for = record { under = f.under; ordered = record { at = λ i. (low_or_high i).0 }; ready = ready_lower s count hs ts (λ i. (low_or_high i).1) f.ready }
+  pub narrow_for : {bs : List ℕ} → bs ≡ ls → SearchedFor s count r bs ts work
+  narrow_for e = rw e (record { under = f.under; ordered = record { at = λ i. (low_or_high i).0 }; ready = ready_lower s count hs ts (λ i. (low_or_high i).1) f.ready })
 
   -- no free term under the result names an input that has its low alone
   not_named : (i : ℕ) → ((k : ℕ) → k < count → mark_in work k ≡ true → is_free (term_at s k) ≡ true → (term_at s k).a ≡ i → ⊥) → NotNamed (terms_in s count) r i
@@ -261,7 +254,7 @@ module _ (s : List ℕ) (count : ℕ) (r : Result) (g : Goal) {ls hs work ts : L
       go (inl e) = inl e
       go (inr e) = inr (e.0, f.ordered.at i, reached_apart g r (terms_in s count) i (not_named i e.1))
 
-  pub narrow_found : {h : Hit} → Searched s count r g ls ts h → Searched s count r g ls hs h
+  pub narrow_found : {h : Option (List ℕ)} → {bs : List ℕ} → bs ≡ ls → Searched s count r g bs ts h → Searched s count r g ls hs h
   unfolding first_reached
-  narrow_found q =
-      q ∙ ap hit_of (first_nested (reached_at g r (terms_in s count)) ls ts ∙ (sym (box_narrow (reached_at g r (terms_in s count)) ls hs ts (omega arith) (omega (arith, st.long)) narrowed) ∙ sym (first_nested (reached_at g r (terms_in s count)) ls hs)))
+  narrow_found e q =
+      (rw e at q) ∙ ap numbers_of (first_nested (reached_at g r (terms_in s count)) ls ts ∙ (sym (box_narrow (reached_at g r (terms_in s count)) ls hs ts (omega arith) (omega (arith, st.long)) narrowed) ∙ sym (first_nested (reached_at g r (terms_in s count)) ls hs)))

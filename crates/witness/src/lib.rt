@@ -2,19 +2,22 @@
 // named word; or that there is none. A box of readings is halved at its first input that is not yet one value, and passed over
 // where the ranges of its terms rule the goal out. Inputs that the result does not stand on stay at their lows. No public
 // function has a `requires`.
-#![tactic(auto)]
+#![tactic(auto, using(notation::proofs::Follow::tests), unfolding(firsts::specs::Witness::spans_fit, firsts::specs::Witness::bits_in, firsts::specs::Witness::witness_refusal, crate::specs::Search::is_free, crate::specs::Search::named_input))]
 
 ghost use Rattle.std.specs.Prelude.{◌≡◌, true, ◌+◌, ◌≤◌, ◌<◌, length, get_or, set};
 ghost use Rattle.words.specs.Words.{word_limit, last_word};
 ghost use Rattle.semantics.specs.Numbers.{input_count, term_limit};
+ghost use Rattle.semantics.specs.Refusals.{answer_number};
 ghost use Rattle.semantics.specs.Terms.{terms_in};
-ghost use Rattle.firsts.specs.Witness.{is_error, is_abort, is_the_word, reaches as «reaches-goal», reached_at, no_hit, bits_in, bits_of, least_of, greatest_of, spans_fit, witness_refused, witness_refusal, witness_of};
+ghost use Rattle.firsts.specs.Witness.{reaches as «reaches-goal», reached_at, bits_in, bits_of, least_of, greatest_of, spans_fit, witness_refusal, witness_of};
 ghost use Rattle.marked.specs.Marked.{Under};
 ghost use Rattle.boxes.specs.Boxes.{NotReached};
 ghost use Rattle.witness.specs.Search.{is_free, named_input, single_hit, middle_of, Ordered, OpenAt, FirstOpen, Stood, SearchedFor, Searched};
+ghost use Rattle.witness.specs.Told.{witness_told};
 
+use boxes::Bounds;
 use reader::Place;
-use semantics::{Goal, Hit, Input, Outcome, Result, Session, Term, Witness, numbers};
+use semantics::{Goal, Input, Outcome, Refusal, Session, Term, numbers};
 use words::Word;
 
 // The last word.
@@ -29,80 +32,78 @@ const FEW_TERMS: usize = 512;
 const ALL_TERMS: usize = numbers::TERM_LIMIT as usize;
 
 // The first reading that reaches the goal, inside the spans where they are given; or a refusal, by 3, 14, 17, 19 or 15. The work
-// list is zero on every return.
+// list is zero on every return. Lows and highs come apart, as the C interface gives them.
 pub fn witness(
     session: Session,
     table: &[u8],
-    res: Result,
+    res: semantics::Result,
     goal: Goal,
     spanned: bool,
     lows: [Word; 16],
     highs: [Word; 16],
     work: &mut [Place],
-) -> Witness
-    ensures { (result, work.new) ≡ witness_of session table.now res goal spanned lows highs work.old }
+) -> Result<Option<[Word; 16]>, Refusal>
+    ensures { (witness_told result, work.new) ≡ witness_of session table.now res goal spanned lows highs work.old }
 {
-    let refusal = refusal(session, table, res, spanned, lows, highs, work.len());
-    if refusal != 0 {
-        reader::wipe(work);
-        return refused(refusal);
-    }
-    let inputs = session.inputs;
-    let least = least(spanned, inputs, lows);
-    let greatest = greatest(spanned, inputs, highs);
-    under::mark_under(table, session.count, res, work);
-    let hit = first_marked(table, session.count, res, goal, least, greatest, work);
+    let found = find(session, table, res, goal, spanned, lows, highs, work);
     reader::wipe(work);
-    Witness { refusal: 0, hit }
+    found
 }
 
-fn refused(refusal: u8) -> Witness
-    ensures { result ≡ witness_refused refusal }
-{
-    let hit = no_hit();
-    Witness { refusal, hit }
-}
-
-// The first of 3, 14, 17, 19 and 15 that refuses the call; else 0.
-fn refusal(
+// The same, with the marks left in the work list.
+fn find(
     session: Session,
     table: &[u8],
-    res: Result,
+    res: semantics::Result,
+    goal: Goal,
+    spanned: bool,
+    lows: [Word; 16],
+    highs: [Word; 16],
+    work: &mut [Place],
+) -> Result<Option<[Word; 16]>, Refusal>
+    ensures { witness_told result ≡ (witness_of session table.now res goal spanned lows highs work.old).0 }
+{
+    taken(session, table, res, spanned, lows, highs, work.len())?;
+    let bounds = bounds(spanned, session.inputs, lows, highs);
+    under::mark_under(table, session.count, res, work);
+    Ok(first_marked(table, session.count, res, goal, bounds, work))
+}
+
+// The first of 3, 14, 17, 19 and 15 that refuses the call.
+fn taken(
+    session: Session,
+    table: &[u8],
+    res: semantics::Result,
     spanned: bool,
     lows: [Word; 16],
     highs: [Word; 16],
     places: usize,
-) -> u8
-    ensures { result ≡ witness_refusal session table.now res spanned lows highs places }
+) -> Result<(), Refusal>
+    ensures { answer_number result ≡ witness_refusal session table.now res spanned lows highs places }
 {
-    if fitting::fits(session, table) {} else {
-        return numbers::MISFIT;
+    if !fitting::fits(session, table) {
+        return Err(Refusal::Misfit);
     }
-    if reading_tests::result_taken(table, session.count, res) {} else {
-        return numbers::BAD_RESULT;
+    if !reading_tests::result_taken(table, session.count, res) {
+        return Err(Refusal::BadResult);
     }
-    let inputs = session.inputs;
-    if spans_fit(spanned, inputs, lows, highs) {} else {
-        return numbers::BAD_SPAN;
+    if !spans_fit(spanned, session.inputs, lows, highs) {
+        return Err(Refusal::BadSpan);
     }
-    if numbers::BIT_LIMIT < free_bits(inputs) {
-        return numbers::TOO_MANY_BITS;
+    if numbers::BIT_LIMIT < free_bits(session.inputs) {
+        return Err(Refusal::TooManyBits);
     }
     if places < session.count as usize {
-        return numbers::WORK_SHORT;
+        return Err(Refusal::WorkShort);
     }
-    0
+    Ok(())
 }
 
 // Spans are tested where they are given.
 fn spans_fit(spanned: bool, inputs: [Input; 16], lows: [Word; 16], highs: [Word; 16]) -> bool
     ensures { result ≡ spans_fit spanned inputs lows highs }
 {
-    if spanned {
-        spans::spans_taken(inputs, lows, highs)
-    } else {
-        true
-    }
+    !spanned || spans::spans_taken(inputs, lows, highs)
 }
 
 // How many bits the free inputs have.
@@ -110,48 +111,41 @@ fn free_bits(inputs: [Input; 16]) -> u16
     ensures { result ≡ bits_of inputs }
 {
     let mut n: u16 = 0;
-    let mut i: u16 = 0;
-    while i < numbers::INPUT_COUNT {
-        n += bits_in(inputs[i as usize]);
-        i += 1;
+    for x in &inputs {
+        n += bits_in(*x);
     }
     n
 }
 
 fn bits_in(x: Input) -> u16
-    ensures fact_1 { result ≡ bits_in x }
-    ensures fact_2 { result ≤ 16 }
+    ensures bits { result ≡ bits_in x }
+    ensures few { result ≤ 16 }
 {
-    if x.kind == numbers::FREE_TRUTH {
-        1
-    } else if x.kind == numbers::FREE_WORD {
-        words::WIDTH as u16
-    } else {
-        0
+    match x.kind {
+        numbers::FREE_TRUTH => 1,
+        numbers::FREE_WORD => words::WIDTH as u16,
+        _ => 0,
     }
 }
 
-// The least number of each input; of a word 0, where no spans are given. It promises too that there are sixteen inputs: its
-// caller has them in a session, of which it knows no length.
-fn least(spanned: bool, inputs: [Input; 16], lows: [Word; 16]) -> [Word; 16]
-    ensures fact_1 { result ≡ least_of spanned inputs lows }
-    ensures fact_2 { length inputs ≡ input_count }
+// The least and the greatest number of each input; of a word 0 and the last, where no spans are given. It promises too that there
+// are sixteen inputs: its caller has them in a session, of which it knows no length.
+fn bounds(spanned: bool, inputs: [Input; 16], lows: [Word; 16], highs: [Word; 16]) -> Bounds
+    ensures least { result.lows ≡ least_of spanned inputs lows }
+    ensures greatest { result.highs ≡ greatest_of spanned inputs highs }
+    ensures sixteen { length inputs ≡ input_count }
 {
-    if spanned {
-        spans::ends(0, inputs, lows)
+    let given = if spanned {
+        Bounds { lows, highs }
     } else {
-        spans::ends(0, inputs, [0; 16])
-    }
-}
-
-// The greatest; of a word the last, where no spans are given.
-fn greatest(spanned: bool, inputs: [Input; 16], highs: [Word; 16]) -> [Word; 16]
-    ensures { result ≡ greatest_of spanned inputs highs }
-{
-    if spanned {
-        spans::ends(1, inputs, highs)
-    } else {
-        spans::ends(1, inputs, [LAST_WORD; 16])
+        Bounds {
+            lows: [0; 16],
+            highs: [LAST_WORD; 16],
+        }
+    };
+    Bounds {
+        lows: spans::ends(0, inputs, given.lows),
+        highs: spans::ends(1, inputs, given.highs),
     }
 }
 
@@ -160,125 +154,124 @@ fn greatest(spanned: bool, inputs: [Input; 16], highs: [Word; 16]) -> [Word; 16]
 fn first_marked(
     table: &[u8],
     count: u16,
-    res: Result,
+    res: semantics::Result,
     goal: Goal,
-    least: [Word; 16],
-    greatest: [Word; 16],
+    bounds: Bounds,
     work: &mut [Place],
-) -> Hit
-    requires fact_1 { SearchedFor table.now count res least greatest work.old }
-    requires fact_2 { count ≤ term_limit }
-    ensures { Searched table.now count res goal least greatest result }
+) -> Option<[Word; 16]>
+    requires searched { SearchedFor table.now count res bounds.lows bounds.highs work.old }
+    requires count_fits { count ≤ term_limit }
+    ensures { Searched table.now count res goal bounds.lows bounds.highs result }
 {
-    let stood = stood_on(table, count, least, greatest, work);
-    if (count as usize) <= FEW_TERMS {
-        let mut tops: [Word; FEW_TERMS] = [0; FEW_TERMS];
-        return search(table, count, res, goal, least, stood, work, &mut tops);
+    let stood = stood_on(table, count, bounds, work);
+    if count as usize <= FEW_TERMS {
+        search_among::<FEW_TERMS>(table, count, res, goal, stood, work)
+    } else {
+        search_among::<ALL_TERMS>(table, count, res, goal, stood, work)
     }
-    let mut tops: [Word; ALL_TERMS] = [0; ALL_TERMS];
-    search(table, count, res, goal, least, stood, work, &mut tops)
 }
 
-// The highs of the inputs that marked terms name; of the others the lows.
-fn stood_on(
+// The search, with the highs of the ranges of so many terms.
+fn search_among<const TERMS: usize>(
     table: &[u8],
     count: u16,
-    lows: [Word; 16],
-    highs: [Word; 16],
-    work: &[Place],
-) -> [Word; 16]
-    requires { count ≤ length work.now }
-    ensures { Stood table.now lows highs work.now count result }
+    res: semantics::Result,
+    goal: Goal,
+    bounds: Bounds,
+    work: &mut [Place],
+) -> Option<[Word; 16]>
+    requires searched { SearchedFor table.now count res bounds.lows bounds.highs work.old }
+    requires room { count ≤ TERMS }
+    requires few { TERMS ≤ term_limit }
+    ensures { Searched table.now count res goal bounds.lows bounds.highs result }
 {
-    let mut stood = lows;
-    let mut i: u16 = 0;
-    while i < count {
-        let a = named_input(work[i as usize], records::term_at(table, i));
-        if a < numbers::INPUT_COUNT {
-            let high = highs[a as usize];
-            stood[a as usize] = high;
-        }
-        i += 1;
-    }
-    stood
+    let mut tops: [Word; TERMS] = [0; TERMS];
+    search(table, count, res, goal, bounds, work, &mut tops)
 }
 
-// The input that a term names, where its place is marked and it is a free input's; else 16.
-fn named_input(n: Place, t: Term) -> u16
+// The box with the highs of the inputs that marked terms name; of the others the lows.
+fn stood_on(table: &[u8], count: u16, bounds: Bounds, work: &[Place]) -> Bounds
+    requires { count ≤ length work.now }
+    ensures lows { result.lows ≡ bounds.lows }
+    ensures highs { Stood table.now bounds.lows bounds.highs work.now count result.highs }
+{
+    let mut highs = bounds.lows;
+    for i in 0..count {
+        if let Some(a) = named_input(work[i as usize], records::term_at(table, i)) {
+            highs[a as usize] = bounds.highs[a as usize];
+        }
+    }
+    Bounds {
+        lows: bounds.lows,
+        highs,
+    }
+}
+
+// The input that a term names, where its place is marked and it is a free input's.
+fn named_input(n: Place, t: Term) -> Option<u16>
     ensures { result ≡ named_input n t }
 {
-    if under::is_marked(n) {
-        if is_free(t) {
-            t.a
-        } else {
-            numbers::INPUT_COUNT
-        }
+    if under::is_marked(n) && is_free(t) && t.a < numbers::INPUT_COUNT {
+        Some(t.a)
     } else {
-        numbers::INPUT_COUNT
+        None
     }
 }
 
 fn is_free(t: Term) -> bool
     ensures { result ≡ is_free t }
 {
-    if t.kind == numbers::FREE_TRUTH_TERM {
-        true
-    } else {
-        t.kind == numbers::FREE_WORD_TERM
-    }
+    t.kind == numbers::FREE_TRUTH_TERM || t.kind == numbers::FREE_WORD_TERM
 }
 
-// The first reading in the box from the lows to the highs.
+// The first reading in the box.
 fn search(
     table: &[u8],
     count: u16,
-    res: Result,
+    res: semantics::Result,
     goal: Goal,
-    lows: [Word; 16],
-    highs: [Word; 16],
+    bounds: Bounds,
     work: &mut [Place],
     tops: &mut [Word],
-) -> Hit
-    requires { (SearchedFor table.now count res lows highs work.old) × (count ≤ length tops.old) }
-    ensures { (Searched table.now count res goal lows highs result) × (Under table.now count res work.new) }
+) -> Option<[Word; 16]>
+    requires searched { SearchedFor table.now count res bounds.lows bounds.highs work.old }
+    requires room { count ≤ length tops.old }
+    ensures first { Searched table.now count res goal bounds.lows bounds.highs result }
+    ensures marks_stay { Under table.now count res work.new }
 {
-    let i = first_open(lows, highs);
-    if i == numbers::INPUT_COUNT {
-        return single(table, count, res, goal, lows, work);
+    let Some(i) = first_open(bounds) else {
+        return single(table, count, res, goal, bounds.lows, work);
+    };
+    if passed_over(table, count, res, goal, bounds, work, tops) {
+        return None;
     }
-    if passed_over(table, count, res, goal, lows, highs, work, tops) {
-        return no_hit();
+    let lower = lower_half(bounds, i);
+    let upper = upper_half(bounds, i);
+    let hit = search(table, count, res, goal, lower, work, tops);
+    if let Some(numbers) = hit {
+        return Some(numbers);
     }
-    let below = highs_below(lows, highs, i);
-    let hit = search(table, count, res, goal, lows, below, work, tops);
-    if hit.found {
-        return hit;
-    }
-    let above = lows_above(lows, highs, i);
-    search(table, count, res, goal, above, highs, work, tops)
+    search(table, count, res, goal, upper, work, tops)
 }
 
 // A single reading, if it reaches the goal.
 fn single(
     table: &[u8],
     count: u16,
-    res: Result,
+    res: semantics::Result,
     goal: Goal,
     numbers: [Word; 16],
     work: &mut [Place],
-) -> Hit
+) -> Option<[Word; 16]>
     requires { Under table.now count res work.old }
-    ensures fact_1 { result ≡ single_hit (reached_at goal res (terms_in table.now count) numbers) numbers }
-    ensures fact_2 { Under table.now count res work.new }
+    ensures hit { result ≡ single_hit (reached_at goal res (terms_in table.now count) numbers) numbers }
+    ensures marks_stay { Under table.now count res work.new }
 {
     let outcome = marked::read_under(table, count, res, numbers, work);
     if reaches(goal, outcome) {
-        Hit {
-            found: true,
-            numbers,
-        }
+        Some(numbers)
     } else {
-        no_hit()
+        None
     }
 }
 
@@ -286,92 +279,79 @@ fn single(
 fn passed_over(
     table: &[u8],
     count: u16,
-    res: Result,
+    res: semantics::Result,
     goal: Goal,
-    lows: [Word; 16],
-    highs: [Word; 16],
+    bounds: Bounds,
     work: &mut [Place],
     tops: &mut [Word],
 ) -> bool
-    requires fact_1 { SearchedFor table.now count res lows highs work.old }
-    requires fact_2 { count ≤ length tops.old }
-    ensures fact_1 { (result ≡ true → NotReached table.now count res goal lows highs) }
-    ensures fact_2 { Under table.now count res work.new }
+    requires searched { SearchedFor table.now count res bounds.lows bounds.highs work.old }
+    requires room { count ≤ length tops.old }
+    ensures ruled_out { (result ≡ true → NotReached table.now count res goal bounds.lows bounds.highs) }
+    ensures marks_stay { Under table.now count res work.new }
 {
-    if many(lows, highs) {
-        !boxes::possible(table, count, res, goal, lows, highs, work, tops)
-    } else {
-        false
+    many(bounds) && !boxes::possible(table, count, res, goal, bounds, work, tops)
+}
+
+// The lower half, which ends halfway between input i's low and its high.
+fn lower_half(bounds: Bounds, i: u16) -> Bounds
+    requires { OpenAt bounds.lows bounds.highs i }
+    ensures lows { result.lows ≡ bounds.lows }
+    ensures highs { result.highs ≡ set bounds.highs i (middle_of (get_or bounds.lows i 0) (get_or bounds.highs i 0)) }
+{
+    let mut highs = bounds.highs;
+    highs[i as usize] = middle(bounds.lows[i as usize], bounds.highs[i as usize]);
+    Bounds {
+        lows: bounds.lows,
+        highs,
     }
 }
 
-// The highs of the lower half, which ends halfway between input i's low and its high.
-fn highs_below(lows: [Word; 16], highs: [Word; 16], i: u16) -> [Word; 16]
-    requires { OpenAt lows highs i }
-    ensures { result ≡ set highs i (middle_of (get_or lows i 0) (get_or highs i 0)) }
+// The upper half.
+fn upper_half(bounds: Bounds, i: u16) -> Bounds
+    requires { OpenAt bounds.lows bounds.highs i }
+    ensures lows { result.lows ≡ set bounds.lows i (middle_of (get_or bounds.lows i 0) (get_or bounds.highs i 0) + 1) }
+    ensures highs { result.highs ≡ bounds.highs }
 {
-    let mut below = highs;
-    let m = middle(lows[i as usize], highs[i as usize]);
-    below[i as usize] = m;
-    below
-}
-
-// The lows of the upper half.
-fn lows_above(lows: [Word; 16], highs: [Word; 16], i: u16) -> [Word; 16]
-    requires { OpenAt lows highs i }
-    ensures { result ≡ set lows i (middle_of (get_or lows i 0) (get_or highs i 0) + 1) }
-{
-    let mut above = lows;
-    let m = middle(lows[i as usize], highs[i as usize]);
-    above[i as usize] = m + 1;
-    above
+    let mut lows = bounds.lows;
+    lows[i as usize] = middle(bounds.lows[i as usize], bounds.highs[i as usize]) + 1;
+    Bounds {
+        lows,
+        highs: bounds.highs,
+    }
 }
 
 // Halfway between two numbers.
 fn middle(low: Word, high: Word) -> Word
     requires { low < high }
-    ensures fact_1 { result ≡ middle_of low high }
-    ensures fact_2 { result < last_word }
+    ensures halfway { result ≡ middle_of low high }
+    ensures not_the_last { result < last_word }
 {
     low + (high - low) / 2
 }
 
-fn no_hit() -> Hit
-    ensures { result ≡ no_hit }
+// The first input that is not yet one value.
+fn first_open(bounds: Bounds) -> Option<u16>
+    ensures { FirstOpen bounds.lows bounds.highs result }
 {
-    Hit {
-        found: false,
-        numbers: [0; 16],
-    }
-}
-
-// The first input that is not yet one value; 16 where every one is.
-fn first_open(lows: [Word; 16], highs: [Word; 16]) -> u16
-    ensures { FirstOpen lows highs result }
-{
-    let mut i: u16 = 0;
-    while i < numbers::INPUT_COUNT {
-        if lows[i as usize] == highs[i as usize] {
-            i += 1;
-        } else {
-            return i;
+    for i in 0..numbers::INPUT_COUNT {
+        if bounds.lows[i as usize] != bounds.highs[i as usize] {
+            return Some(i);
         }
     }
-    i
+    None
 }
 
 // Whether a box has many readings. It hangs on this how long a search takes, and not what it finds.
-fn many(lows: [Word; 16], highs: [Word; 16]) -> bool
-    requires { Ordered lows highs }
+fn many(bounds: Bounds) -> bool
+    requires { Ordered bounds.lows bounds.highs }
 {
     let mut n: u32 = 1;
-    let mut i: u16 = 0;
-    while i < numbers::INPUT_COUNT {
-        n = n * size(lows[i as usize], highs[i as usize]);
+    for (low, high) in bounds.lows.iter().zip(&bounds.highs) {
+        n *= size(*low, *high);
         if MANY <= n {
             return true;
         }
-        i += 1;
     }
     false
 }
@@ -387,48 +367,10 @@ fn size(low: Word, high: Word) -> u32
 fn reaches(goal: Goal, o: Outcome) -> bool
     ensures { result ≡ «reaches-goal» goal o }
 {
-    match goal {
-        Goal::Errs => is_error(o),
-        Goal::Aborts => is_abort(o),
-        Goal::Gives(w) => is_the_word(w, o),
-    }
-}
-
-fn is_error(o: Outcome) -> bool
-    ensures { result ≡ is_error o }
-{
-    match o {
-        Outcome::Truth(_) => false,
-        Outcome::Word(_) => false,
-        Outcome::Procedure(_) => false,
-        Outcome::Abort => false,
-        Outcome::Error => true,
-        Outcome::Refused(_) => false,
-    }
-}
-
-fn is_abort(o: Outcome) -> bool
-    ensures { result ≡ is_abort o }
-{
-    match o {
-        Outcome::Truth(_) => false,
-        Outcome::Word(_) => false,
-        Outcome::Procedure(_) => false,
-        Outcome::Abort => true,
-        Outcome::Error => false,
-        Outcome::Refused(_) => false,
-    }
-}
-
-fn is_the_word(n: Word, o: Outcome) -> bool
-    ensures { result ≡ is_the_word n o }
-{
-    match o {
-        Outcome::Truth(_) => false,
-        Outcome::Word(w) => w == n,
-        Outcome::Procedure(_) => false,
-        Outcome::Abort => false,
-        Outcome::Error => false,
-        Outcome::Refused(_) => false,
+    match (goal, o) {
+        (Goal::Errs, Outcome::Error) => true,
+        (Goal::Aborts, Outcome::Abort) => true,
+        (Goal::Gives(w), Outcome::Word(n)) => n == w,
+        _ => false,
     }
 }

@@ -23,6 +23,7 @@ pub const BYTES: usize = WIDTH as usize / 8;
 pub const WORDS: Wide = 1 << (WIDTH as Wide);
 
 // A word's first field.
+#[tactic(auto, unfolding(crate::specs::Words::low_of))]
 pub fn low(w: Word) -> u16
     ensures { result ≡ low_of w }
 {
@@ -30,6 +31,7 @@ pub fn low(w: Word) -> u16
 }
 
 // A word's second field; 0 where a word takes one.
+#[tactic(auto, unfolding(crate::specs::Words::high_of))]
 pub fn high(w: Word) -> u16
     ensures { result ≡ high_of w }
 {
@@ -37,6 +39,7 @@ pub fn high(w: Word) -> u16
 }
 
 // The word in two fields.
+#[tactic(auto, unfolding(crate::specs::Words::join_of))]
 pub fn join(first: u16, second: u16) -> Word
     ensures { result ≡ join_of first second }
 {
@@ -47,35 +50,35 @@ pub fn join(first: u16, second: u16) -> Word
 pub fn widen(n: Word) -> u32
     ensures { result ≡ n }
 {
-    n as u32
+    u32::from(n)
 }
 
 // The word in a number of four bytes: its low bits.
 pub fn narrow(n: u32) -> Word
     ensures { result ≡ n % word_limit }
 {
-    ((n as Wide) % WORDS) as Word
+    (Wide::from(n) % WORDS) as Word
 }
 
 // The sum, wrapped.
 pub fn add(a: Word, b: Word) -> Word
     ensures { result ≡ sum_of width a b }
 {
-    std::num::wrapping_add_u16(a, b)
+    a.wrapping_add(b)
 }
 
 // The difference, wrapped.
 pub fn subtract(a: Word, b: Word) -> Word
     ensures { result ≡ difference_of width a b }
 {
-    std::num::wrapping_sub_u16(a, b)
+    a.wrapping_sub(b)
 }
 
 // The low half of the product.
 pub fn multiply(a: Word, b: Word) -> Word
     ensures { result ≡ product_of width a b }
 {
-    (((a as Wide) * (b as Wide)) % WORDS) as Word
+    a.wrapping_mul(b)
 }
 
 pub fn and(a: Word, b: Word) -> Word
@@ -97,6 +100,7 @@ pub fn xor(a: Word, b: Word) -> Word
 }
 
 // Zero once the amount reaches the width.
+#[tactic(auto, using(notation::proofs::Follow::values))]
 pub fn shift_left(a: Word, b: Word) -> Word
     ensures { result ≡ left_of width a b }
 {
@@ -104,6 +108,7 @@ pub fn shift_left(a: Word, b: Word) -> Word
 }
 
 // Zero once the amount reaches the width.
+#[tactic(auto, using(notation::proofs::Follow::values))]
 pub fn shift_right(a: Word, b: Word) -> Word
     ensures { result ≡ right_of width a b }
 {
@@ -113,12 +118,12 @@ pub fn shift_right(a: Word, b: Word) -> Word
 pub fn count_ones(a: Word) -> Word
     ensures { result ≡ ones_of a }
 {
-    u16::count_ones(a) as Word
+    a.count_ones() as Word
 }
 
 // The width for 0.
 pub fn leading_zeros(a: Word) -> Word
     ensures { result ≡ zeros_of width a }
 {
-    u16::leading_zeros(a) as Word
+    a.leading_zeros() as Word
 }

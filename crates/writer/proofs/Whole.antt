@@ -18,9 +18,9 @@ use Rattle.semantics.specs.Terms.{terms_in}
 use Rattle.semantics.specs.Fits.{fits_of}
 use Rattle.semantics.specs.Reading.{result_taken}
 use Rattle.clauses.specs.Clauses.{owned, variable_count, table_clauses, goal_clauses, clauses_for}
-use Rattle.cursor.specs.Sink.{most_text, Writes}
+use Rattle.cursor.specs.Sink.{most_text, Fills}
 use Rattle.cursor.proofs.Fit.{stored}
-use Rattle.dimacs.specs.declared.Written.{Written}
+use Rattle.dimacs.specs.Written.{Written}
 use Rattle.dimacs.specs.Text.{clauses_text, header_text, text_for}
 use Rattle.dimacs.specs.Write.{written_of, write_of}
 use Rattle.dimacs.proofs.Texts.{clauses_append}
@@ -71,20 +71,20 @@ module _ (x : Session) (s : List ℕ) (r : Result) (g : Goal) (buffer : List ℕ
   abbrev text : List ℕ
   text = text_for x.count (terms_in s x.count) r g
 
-  pub refused_misfit : {b : Bool} → b ≡ fits_of x s → b ≡ false → {w : Written} → w ≡ written_of misfit 0 → ◌≡◌ {A = Written × List ℕ} (w, buffer) (write_of x s r g buffer)
+  pub refused_misfit : {b : Bool} → b ≡ fits_of x s → b ≡ false → ◌≡◌ {A = Written × List ℕ} (written_of misfit 0, buffer) (write_of x s r g buffer)
   unfolding write_of unless◌then◌else◌
-  refused_misfit p q e = rw (sym p ∙ q, e)
+  refused_misfit p q = rw (sym p ∙ q)
 
   module _ {b : Bool} (p : b ≡ fits_of x s) (q : b ≡ true) {d : Bool} (u : d ≡ result_taken (terms_in s x.count) r) where
-    pub refused_result : d ≡ false → {w : Written} → w ≡ written_of bad_result 0 → ◌≡◌ {A = Written × List ℕ} (w, buffer) (write_of x s r g buffer)
+    pub refused_result : d ≡ false → ◌≡◌ {A = Written × List ℕ} (written_of bad_result 0, buffer) (write_of x s r g buffer)
     unfolding write_of unless◌then◌else◌
-    refused_result v e = rw (sym p ∙ q, sym u ∙ v, e)
+    refused_result v = rw (sym p ∙ q, sym u ∙ v)
 
     module _ (v : d ≡ true) {n : ℕ} (e : n ≡ length text) where
       pub refused_long : length buffer < n → ◌≡◌ {A = Written × List ℕ} (written_of text_long n, buffer) (write_of x s r g buffer)
       unfolding write_of unless◌then◌else◌ if◌below◌then◌else◌ with
       refused_long l = rw (sym p ∙ q, sym u ∙ v, lt-ltb (length buffer) (length text) (omega arith), e)
 
-      pub written : n ≤ length buffer → n ≤ most_text → {z : List ℕ} {m : ℕ} → Writes text buffer 0 z m → ◌≡◌ {A = Written × List ℕ} (written_of 0 n, z) (write_of x s r g buffer)
+      pub written : n ≤ length buffer → n ≤ most_text → {z : List ℕ} {m : ℕ} → Fills text buffer z m → ◌≡◌ {A = Written × List ℕ} (written_of 0 n, z) (write_of x s r g buffer)
       unfolding write_of unless◌then◌else◌ if◌below◌then◌else◌ with
       written l h w = rw (sym p ∙ q, sym u ∙ v, le-ltb (length buffer) (length text) (omega arith), e, stored w (omega arith) (omega arith))

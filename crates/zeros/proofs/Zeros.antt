@@ -1,4 +1,4 @@
--- Whether the bytes of a slice are zero from a place on: each way through a loop, given that what is left of the test decides it, and a tail in
+-- Whether the bytes of a slice are zero from a place on: each byte of four slices, given that what is left of the test decides it, and a tail in
 -- parts. Assumes nothing.
 use mathlib.Core.Path.{◌≡◌, refl, sym, ap, ◌∙◌}
 use mathlib.Core.Bool.{Bool, true, false, ◌&&◌}
@@ -7,10 +7,11 @@ use Prim.Native.Nat.{ℕ, zero, suc, ◌+◌, ◌-◌, ◌<◌, ◌≤◌}
 use native.Mathlib.Numerals.{add-one}
 use native.Mathlib.Omega.{arith}
 use lib.ListN.{length, get_or, take, drop, length-take, length-drop, drop_of_length-le}
-use lib.Seq.{drop-cons, drop-drop}
+use lib.Seq.{drop-cons, drop-drop, take_all}
 use lib.Bits.{bit_or, or_add_and, and_le_l, and_le_r}
 use lib.Dec.{eqb}
-use borrow.Author.Tests.{eqb-true, eqb-false, eq-eqb, ne_eqb}
+use Rattle.std.specs.List.{list_all}
+use borrow.Author.Tests.{eqb-true, eqb-false, ne_eqb}
 use Rattle.notation.specs.Notation.{pick, when◌then◌else◌, every}
 use Rattle.semantics.specs.Fits.{is_zero}
 use Rattle.zeros.specs.Zeros.{four_zero}
@@ -22,17 +23,10 @@ left s i h = rw (add-one, drop-cons s i 0 h)
 
 -- ---- byte after byte
 
-module _ (s : List ℕ) {z : Bool} (i : ℕ) (inv : every is_zero (drop i s) ≡ z) where
-  pub rest_end : length s ≤ i → true ≡ z
-  unfolding every
-  rest_end h = rw (drop_of_length-le s h) at inv
-
-  module _ (h : i < length s) where
-    pub rest_next : get_or s i 0 ≡ 0 → every is_zero (drop (i + 1) s) ≡ z
-    rest_next e = rw (left s i h, eq-eqb _ _ e) at inv
-
-    pub rest_miss : (get_or s i 0 ≡ 0 → ⊥) → false ≡ z
-    rest_miss e = rw (left s i h, ne_eqb _ _ e) at inv
+-- nothing is left past the end
+pub past_end : (s : List ℕ) (i : ℕ) → length s ≤ i → true ≡ every is_zero (drop i s)
+unfolding every
+past_end s i h = rw (drop_of_length-le s h)
 
 -- ---- four slices at once
 
@@ -59,7 +53,7 @@ module _ (x y z w : List ℕ) (ly : length y ≡ length x) (lz : length z ≡ le
       go true e = e
       go false e = e
 
-  pub four_next : i < length x → pick (eqb (bit_or (bit_or (bit_or (bit_or seen (get_or x i 0)) (get_or y i 0)) (get_or z i 0)) (get_or w i 0)) 0)
+  pub four_next : i < length x → pick (eqb (bit_or seen (bit_or (bit_or (bit_or (get_or x i 0) (get_or y i 0)) (get_or z i 0)) (get_or w i 0))) 0)
       (four_zero (drop (i + 1) x) (drop (i + 1) y) (drop (i + 1) z) (drop (i + 1) w)) false ≡ v
   four_next h =
       simp or_zero
@@ -67,7 +61,7 @@ module _ (x y z w : List ℕ) (ly : length y ≡ length x) (lz : length z ≡ le
       (rw (left x i h, left y i (omega arith), left z i (omega arith), left w i (omega arith)) at inv))
     where
       go : (s a b c d k l m n : Bool) → pick s (pick a k false && (pick b l false && (pick c m false && pick d n false))) false ≡ v
-          → pick ((((s && a) && b) && c) && d) (k && (l && (m && n))) false ≡ v
+          → pick (s && (((a && b) && c) && d)) (k && (l && (m && n))) false ≡ v
       go false a b c d k l m n e = e
       go true false b c d k l m n e = e
       go true true false c d true l m n e = e
@@ -121,8 +115,18 @@ module _ (s : List ℕ) (from a b c d : ℕ) (ha : from ≤ a) (hb : a ≤ b) (h
       go true false m n t = refl
       go false l m n t = refl
 
-  pub parts_on : r ≡ true → {v : Bool} → v ≡ every is_zero (drop d s) → v ≡ every is_zero (drop from s)
-  parts_on h e = rw (whole, h) e
+  pub parts_on : r ≡ true → {v : Bool} → v ≡ every is_zero (take (length s - d) (drop d s)) → v ≡ every is_zero (drop from s)
+  parts_on h e = rw (whole, h) (e ∙ ap (every is_zero) (take_all (length s - d) (drop d s) (simp length-drop (omega arith))))
 
-  pub parts_miss : r ≡ false → false ≡ every is_zero (drop from s)
+  pub parts_miss : r ≡ false → r ≡ every is_zero (drop from s)
   parts_miss h = rw (whole, h)
+
+-- ---- as std says it
+pub every_all : (f : ℕ → Bool) (xs : List ℕ) → list_all f xs ≡ every f xs
+unfolding every when◌then◌else◌
+every_all f [] = refl
+every_all f (x ∷ xs) = go (f x) (every_all f xs)
+  where
+    go : (b : Bool) → list_all f xs ≡ every f xs → (b && list_all f xs) ≡ pick b (every f xs) false
+    go true e = e
+    go false e = refl

@@ -9,32 +9,24 @@ ghost use Rattle.zeros.specs.Zeros.{four_zero};
 
 // Whether four slices of one length are zero. It looks at every byte, so that a compiler can look at many at once.
 fn four_zero(x: &[u8], y: &[u8], z: &[u8], w: &[u8]) -> bool
-    requires fact_1 { length y.now ≡ length x.now }
-    requires fact_2 { length z.now ≡ length x.now }
-    requires fact_3 { length w.now ≡ length x.now }
+    requires second { length y.now ≡ length x.now }
+    requires third { length z.now ≡ length x.now }
+    requires fourth { length w.now ≡ length x.now }
     ensures { result ≡ four_zero x.now y.now z.now w.now }
 {
-    let mut seen: u8 = 0;
-    let mut i: usize = 0;
-    while i < x.len() {
-        seen = seen | x[i] | y[i] | z[i] | w[i];
-        i += 1;
+    let mut seen = 0;
+    // One index for all four: a zip of zips says no more and hides that they go together.
+    for i in 0..x.len() {
+        seen |= x[i] | y[i] | z[i] | w[i];
     }
     seen == 0
 }
 
-// Whether a slice is zero from a place on.
-fn rest_zero(s: &[u8], at: usize) -> bool
-    ensures { result ≡ every is_zero (drop at s.now) }
+// Whether a slice is zero.
+fn all_zero(s: &[u8]) -> bool
+    ensures { result ≡ every is_zero s.now }
 {
-    let mut i = at;
-    while i < s.len() {
-        if s[i] != 0 {
-            return false;
-        }
-        i += 1;
-    }
-    true
+    s.iter().all(|byte| *byte == 0)
 }
 
 // Whether a slice is zero from a place on, where there may be much to look at: its four quarters go together, which is
@@ -50,8 +42,5 @@ pub fn zero_from(s: &[u8], at: usize) -> bool
     let b = a + quarter;
     let c = b + quarter;
     let d = c + quarter;
-    if four_zero(&s[at..a], &s[a..b], &s[b..c], &s[c..d]) {
-        return rest_zero(s, d);
-    }
-    false
+    four_zero(&s[at..a], &s[a..b], &s[b..c], &s[c..d]) && all_zero(&s[d..])
 }

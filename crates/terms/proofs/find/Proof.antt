@@ -56,5 +56,5 @@ find_spec =
       search rules,
       find_next _ _ _ c.loop-i.i c.loop-i.invariant.2 refl (omega arith) c.term_at.ensures c.same.ensures c.if-same.false,
     ))
-    (λ c. search rules) (λ c κs. search rules) (λ c. search rules) (λ c κs. search rules) (λ c κs. search rules) (λ c. search (rules, find_found))
+    (λ c. search rules) (λ c. search rules) (λ c κs. search rules) (λ c κs. search rules) (λ c. search (rules, find_found))
     (λ c. search rules) (λ c. search rules) (λ c. search (rules, find_next)) (λ c. search (rules, find_none)))

@@ -3,4 +3,4 @@ use Rattle.witness.specs.Search.{spread}
 use Rattle.witness.proofs.+search.Given as goal
 
 abbrev pub decreases-search : goal.decreases-search
-decreases-search l = spread l.lows l.highs
+decreases-search l = spread l.bounds.lows l.bounds.highs

@@ -1,0 +1,14 @@
+-- `expressions::error` meets its contract: it follows the text of its definition. Assumes nothing.
+use borrow.Author.Rules.{rules}
+use Rattle.terms.proofs.Gives.{steps}
+use Rattle.expressions.proofs.Stops.{stopped}
+use Rattle.semantics.specs.Evaluation.{error_of}
+use Rattle.expressions.proofs.error.Goals as goal
+
+pub returns-in_err-after : goal.returns-in_err-after
+unfolding error_of
+returns-in_err-after c = stopped _ c.from_residual.ensures (search steps depth 12)
+
+pub returns : goal.returns
+unfolding error_of
+returns c = rw c.halt.ensures (record { gives = search steps depth 12; low = search rules })

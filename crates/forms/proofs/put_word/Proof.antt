@@ -1,8 +1,0 @@
--- `put_word` meets its contract. Assumes nothing.
-use borrow.Author.Rules.{rules}
-use Rattle.forms.proofs.Written.{put_word}
-use Rattle.forms.proofs.put_word.Statement.{statement}
-use Rattle.forms.proofs.put_word.Tie as tie
-
-pub put_word_spec : {M : Type 1} → statement M
-put_word_spec = tie.close (tie.spec (λ c κs. search rules) (λ c κs. search rules) (λ c. search rules) (λ c. search put_word))

@@ -1,0 +1,8 @@
+-- `goal_clauses::put_two` meets its contract: two literals. Assumes nothing.
+use Rattle.cursor.proofs.Writing.{onward}
+use Rattle.dimacs.specs.Text.{clause_text}
+use Rattle.goal_clauses.proofs.put_two.Goals as goal
+
+pub returns : goal.returns
+unfolding clause_text
+returns c = onward c.put_literal.ensures c.put_unit.ensures

@@ -1,9 +1,0 @@
--- `interpreter::outcome` meets its contract. Assumes nothing.
-use borrow.Author.Rules.{rules}
-use Rattle.interpreter.proofs.Values.{outcomes}
-use Rattle.interpreter.proofs.outcome.Statement.{statement}
-use Rattle.interpreter.proofs.outcome.Tie as tie
-
-pub outcome_spec : {M : Type 1} → statement M
-outcome_spec =
-    tie.close (tie.spec (λ c κs. search rules) (λ c. search outcomes) (λ c. search outcomes) (λ c. search outcomes) (λ c. search outcomes) (λ c. search outcomes))

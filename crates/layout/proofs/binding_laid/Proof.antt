@@ -1,9 +1,0 @@
--- `layout::binding_laid` meets its contract. Assumes nothing.
-use borrow.Author.Rules.{rules}
-use Rattle.notation.proofs.Follow.{tests}
-use Rattle.layout.proofs.binding_laid.Statement.{statement}
-use Rattle.layout.proofs.binding_laid.Tie as tie
-
-pub binding_laid_spec : {M : Type 1} → statement M
-binding_laid_spec =
-    tie.close (tie.spec (λ c κs. search rules) (λ c κs. search rules) (λ c. search tests depth 12) (λ c. search tests depth 12) (λ c. search tests depth 12))

@@ -1,8 +1,0 @@
--- `layout::procedure_laid` meets its contract. Assumes nothing.
-use borrow.Author.Rules.{rules}
-use Rattle.notation.proofs.Follow.{tests}
-use Rattle.layout.proofs.procedure_laid.Statement.{statement}
-use Rattle.layout.proofs.procedure_laid.Tie as tie
-
-pub procedure_laid_spec : {M : Type 1} → statement M
-procedure_laid_spec = tie.close (tie.spec (λ c κs. search rules) (λ c. search tests depth 12) (λ c. search tests depth 12) (λ c. search tests depth 12))

@@ -1,8 +1,0 @@
--- `layout::word_laid` meets its contract. Assumes nothing.
-use borrow.Author.Rules.{rules}
-use Rattle.notation.proofs.Follow.{tests}
-use Rattle.layout.proofs.word_laid.Statement.{statement}
-use Rattle.layout.proofs.word_laid.Tie as tie
-
-pub word_laid_spec : {M : Type 1} → statement M
-word_laid_spec = tie.close (tie.spec (λ c κs. search rules) (λ c. search tests depth 12) (λ c. search tests depth 12))
