@@ -5,7 +5,7 @@
  * place of a text's length uint64_t. The caller owes that the address is not null and holds so many, that a list is aligned for the numbers that it holds, and that
  * nothing written (not const) overlaps another slice of the same call. Nothing else is asked of a caller: every length and
  * every byte is taken or refused. A call keeps no address and uses no memory but what is lent and the stack; an evaluation at
- * the largest depth takes up to 0.8 MiB of it.
+ * the largest depth takes up to 0.7 MiB of it.
  *
  * Each function but desk_rule_turns, which answers a count, answers 0, or the number of the refusal that came first. What is
  * lent to a refused call is left as it was, except that work list and store are zero on every return. Documents 01 and 02

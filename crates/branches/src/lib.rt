@@ -9,6 +9,7 @@ ghost use Rattle.terms.specs.Gives.{Gives};
 ghost use Rattle.branches.specs.Values.{folded_of, GivesValue};
 
 use semantics::{Branch, Refusal, State};
+use states::Steps;
 use terms::Table;
 
 // A result under its guard.
@@ -44,7 +45,7 @@ pub fn finish(table: &Table, state: State, value: Option<u16>) -> semantics::Res
     ensures { Gives (finish_of state (folded_of value)) table.now 0 (Ok result) table.now }
 {
     match value {
-        Some(value) if !states::halts(table, state) => semantics::Result {
+        Some(value) if !state.halts(table) => semantics::Result {
             state,
             value,
             halted: false,

@@ -11,6 +11,7 @@ ghost use Rattle.expressions.specs.Evaluates.{Evaluates};
 use expressions::Out;
 use parts::Sides;
 use semantics::{Branch, Leaf, Record, Refusal, State, numbers};
+use states::Steps;
 use std::marker::Model;
 use terms::Table;
 
@@ -111,7 +112,7 @@ fn live(
 ) -> Result<Out, Refusal>
     ensures { Evaluates depth (live_of rule.entry.records.now rule.entry.before (eval_of rule.entry.records.now rule.entry.before depth) i env state) table.old result table.new }
 {
-    if states::halts(table, state) {
+    if state.halts(table) {
         return Ok(Out::halt(state));
     }
     let here = records::record_at(rule.records, i);
@@ -248,7 +249,7 @@ fn call(
 {
     let aim = walk::aim(table, called, state)?;
     let asserted = aim.state;
-    if states::halts(table, asserted) {
+    if asserted.halts(table) {
         return Ok(Out::halt(asserted));
     }
     targets(table, rule, depth, aim.leaves.as_slice(), arg, asserted)

@@ -11,6 +11,7 @@ ghost use Rattle.terms.specs.Gives.{held, Makes};
 ghost use Rattle.expressions.specs.Evaluates.{Evaluates};
 
 use semantics::{Record, Refusal, State, numbers};
+use states::Steps;
 use terms::Table;
 
 // What an expression comes to, and the depth that it used.
@@ -101,7 +102,7 @@ pub fn procedure(table: &mut Table, i: u16, env: u16, before: u16, x: State) -> 
 pub fn abort(table: &mut Table, x: State) -> Result<Out, Refusal>
     ensures { Evaluates 0 (abort_of x) table.old result table.new }
 {
-    let after = states::assume(table, x, numbers::FALSE_NUMBER)?;
+    let after = x.assume(table, numbers::FALSE_NUMBER)?;
     Ok(Out::halt(after))
 }
 
@@ -109,7 +110,7 @@ pub fn abort(table: &mut Table, x: State) -> Result<Out, Refusal>
 pub fn error(table: &mut Table, x: State) -> Result<Out, Refusal>
     ensures { Evaluates 0 (error_of x) table.old result table.new }
 {
-    let after = states::assert(table, x, numbers::FALSE_NUMBER)?;
+    let after = x.assert(table, numbers::FALSE_NUMBER)?;
     Ok(Out::halt(after))
 }
 
@@ -155,8 +156,8 @@ fn operation(table: &mut Table, op: u8, a: u16, b: u16, x: State) -> Result<Out,
     ensures { Evaluates 0 (operation_of op a b x) table.old result table.new }
 {
     let on_words = words(table, op, a, b)?;
-    let after = states::assert(table, x, on_words)?;
-    if states::halts(table, after) {
+    let after = x.assert(table, on_words)?;
+    if after.halts(table) {
         return Ok(Out::halt(after));
     }
     let made = factory::operator(table, op, a, b)?;

@@ -1,8 +1,8 @@
--- Tests over the terms of a table, from term 0 up, are the definitions', which go from the newest down. Assumes nothing.
+-- Tests over the terms of a table, from term 0 up or from both ends, are the definitions', which go from the newest down. Assumes nothing.
 use mathlib.Core.Path.{◌≡◌, refl, ◌∙◌}
 use mathlib.Core.Bool.{Bool, true, false, ◌&&◌}
 use mathlib.Core.List.{List}
-use Prim.Native.Nat.{ℕ, zero, suc, ◌+◌, ◌-◌}
+use Prim.Native.Nat.{ℕ, zero, suc, ◌+◌, ◌-◌, ◌≤◌}
 use native.Mathlib.Omega.{arith}
 use lib.Dec.{leb}
 use lib.ListN.{take}
@@ -30,6 +30,30 @@ all_more f a n = go n a
     go (suc n) a =
         let e : a + suc n ≡ a + 1 + n = omega arith in
         rw e (rw (go n (a + 1)) (swap (f a) (f (a + 1 + n)) (list_all f (range_with_len (a + 1) n))))
+
+-- n + i with its mirror, over the lower half: m is half of k, rounded up. Of the numbers from n to the count, d at each end
+-- are tested already, and k are left.
+pub both_ends : (g : ℕ → Bool) (n count d k m : ℕ) → count - (n + (d + d)) ≡ k → k ≤ m + m → m + m ≤ k + 1
+    → list_all (λ i. g (n + i) && g (count - 1 - i)) (range_with_len d m) ≡ list_all g (range_with_len (n + d) k)
+both_ends g n count d zero m e h l = let z : m ≡ 0 = omega arith in rw z
+both_ends g n count d (suc zero) m e h l =
+    let z : m ≡ 1 = omega arith in
+    let f : count - 1 - d ≡ n + d = omega arith in
+    rw (z, f) (twice (g (n + d)))
+  where
+    twice : (x : Bool) → ((x && x) && true) ≡ (x && true)
+    twice true = refl
+    twice false = refl
+both_ends g n count d (suc (suc k)) zero e h l = absurd (omega arith)
+both_ends g n count d (suc (suc k)) (suc m) e h l =
+    let f : count - 1 - d ≡ n + d + 1 + k = omega arith in
+    let i : n + (d + 1) ≡ n + d + 1 = omega arith in
+    rw (f, all_more g (n + d + 1) k, both_ends g n count (d + 1) k m (omega arith) (omega arith) (omega arith), i)
+    (group (g (n + d)) (g (n + d + 1 + k)) _)
+  where
+    group : (x y z : Bool) → ((x && y) && z) ≡ (x && (y && z))
+    group true y z = refl
+    group false y z = refl
 
 pub all_same : (s y : List ℕ) (n : ℕ) → list_all (λ i. same_of (term_at s i) (term_at y i)) (range_with_len 0 n) ≡ same_terms (terms_in s n) (terms_in y n)
 unfolding same_terms terms_in

@@ -26,11 +26,15 @@ fn no_free(t: Term) -> bool
     !matches!(t.kind, numbers::FREE_TRUTH_TERM | numbers::FREE_WORD_TERM)
 }
 
-// Whether no free input stands past the first n of `count` terms.
+// Whether no free input stands past the first n of `count` terms. The oldest and the newest that are left are looked at
+// together, so that one at either end is found at once.
 fn none_free(table: &[u8], n: u16, count: u16) -> bool
     ensures { result ≡ every no_free (take (count - n) (terms_in table.now count)) }
 {
-    (n..count).all(|i| no_free(records::term_at(table, i)))
+    let half = count.saturating_sub(n).div_ceil(2);
+    (0..half).all(|i| {
+        no_free(records::term_at(table, n + i)) && no_free(records::term_at(table, count - 1 - i))
+    })
 }
 
 fn formulas_fit(table: &[u8], session: Session) -> bool

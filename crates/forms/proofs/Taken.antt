@@ -2,7 +2,7 @@
 use mathlib.Core.Path.{◌≡◌, refl, sym, subst, ◌∙◌}
 use mathlib.Core.Bool.{Bool, true, false, ◌&&◌}
 use mathlib.Core.List.{List}
-use Prim.Native.Nat.{ℕ, zero, suc, ◌+◌, ◌<◌, ◌≤◌}
+use Prim.Native.Nat.{ℕ, zero, suc, ◌+◌, ◌*◌, ◌<◌, ◌≤◌}
 use native.Mathlib.Omega.{arith}
 use lib.ListN.{get_or, take, length}
 use lib.Seq.{take_all, take-suc}
@@ -13,6 +13,7 @@ use Rattle.std.proofs.Math.Bool.{and_assoc}
 use Rattle.std.specs.Array.{IsFromFnResultFrom, IsFromFnResult}
 use Rattle.std.specs.List.{list_all, range_with_len}
 use Rattle.notation.specs.Notation.{pick, when◌then◌else◌, up_to}
+use Rattle.semantics.specs.Print.{input_size, input_zeroed}
 use Rattle.forms.specs.Forms.{each_below}
 
 -- ---- an array of what a function gives for each number below another
@@ -61,3 +62,8 @@ module _ (f : ℕ → Bool) where
       go : (b : Bool) → (b && f n) ≡ pick b (f n) false
       go true = refl
       go false = refl
+
+-- ---- the zeros after the inputs' kinds
+module _ (s : List ℕ) where
+  pub zero_taken : (i : ℕ) {b : ℕ} → b ≡ get_or s (input_size * i + 1) 0 → eqb b 0 ≡ input_zeroed s i
+  zero_taken i e = rw e

@@ -48,6 +48,10 @@ module _ (s₀ ns : List ℕ) (at i : ℕ) where
   pub pairs_done : length ns ≤ i → {s : List ℕ} → s ≡ sets s₀ at (pairs_of (take i ns)) → s ≡ sets s₀ at (pairs_of ns)
   pairs_done h es = es ∙ rw (take_all i ns h)
 
+-- a word, of its fields
+pub put_word : (s : List ℕ) (i w : ℕ) {l : ℕ} → l ≡ low_of w → {y : List ℕ} → y ≡ sets s i (pairs_of (l ∷ [])) → y ≡ sets s i (word_bytes_of w)
+put_word s i w el ey = ey ∙ rw el
+
 -- a kind as a word, and a word
 kind_word : {k : ℕ} → k < 256 → word_bytes_of k ≡ kind_bytes k
 unfolding low_of

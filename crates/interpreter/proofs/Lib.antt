@@ -1,3 +1,4 @@
+pub mod Sorts
 pub mod Values
 pub mod Bytes
 pub mod Chains

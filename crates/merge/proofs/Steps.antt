@@ -3,10 +3,10 @@ use mathlib.Core.Path.{◌≡◌, refl, ap, fun_ext, ◌∙◌}
 use mathlib.Core.List.{List, [], ◌∷◌, ◌++◌}
 use Prim.Native.Nat.{ℕ, max}
 use native.Mathlib.Omega.{arith}
-use Rattle.semantics.specs.Steps.{Setting, Got, gave, refused, Make, deeper, next, ◌>>=◌, give, each}
+use Rattle.semantics.specs.Steps.{Setting, Got, gave, refused, Make, deeper, next, ◌>>=◌, ◌▹◌, give, each}
 use Rattle.terms.proofs.Gives.{deeper_zero}
 
-give_then : {A B : Type 0} (a : A) (f : A → Make B) → give a >>= f ≡ f a
+pub give_then : {A B : Type 0} (a : A) (f : A → Make B) → give a >>= f ≡ f a
 unfolding ◌>>=◌ give
 give_then a f = fun_ext λ z. fun_ext λ ts. deeper_zero (f a z ts)
 
@@ -19,7 +19,7 @@ module _ {A B C : Type 0} (f : A → Make B) (g : B → Make C) where
   then_deeper z u (gave ts b w) = deeper_both u w (g b z ts)
   then_deeper z u (refused k) = refl
 
-  then_then : (m : Make A) → m >>= f >>= g ≡ m >>= λ a. f a >>= g
+  pub then_then : (m : Make A) → m >>= f >>= g ≡ m >>= λ a. f a >>= g
   unfolding ◌>>=◌
   then_then m = fun_ext λ z. fun_ext λ ts. go z (m z ts)
     where
@@ -27,7 +27,7 @@ module _ {A B C : Type 0} (f : A → Make B) (g : B → Make C) where
       go z (gave ts a u) = then_deeper z u (f a z ts)
       go z (refused k) = refl
 
-then_give : {A : Type 0} (m : Make A) → m >>= give ≡ m
+pub then_give : {A : Type 0} (m : Make A) → m >>= give ≡ m
 unfolding ◌>>=◌ give
 then_give {A} m = fun_ext λ z. fun_ext λ ts. go z (m z ts)
   where
@@ -37,6 +37,15 @@ then_give {A} m = fun_ext λ z. fun_ext λ ts. go z (m z ts)
 
 pub then_as : {A B : Type 0} (m : Make A) {f g : A → Make B} → ((a : A) → f a ≡ g a) → m >>= f ≡ m >>= g
 then_as m e = ap (λ k. m >>= k) (fun_ext e)
+
+module _ {A B C : Type 0} where
+  pub map_then : (m : Make A) (h : A → B) (k : B → Make C) → (m ▹ h) >>= k ≡ m >>= λ a. k (h a)
+  unfolding ◌▹◌
+  map_then m h k = then_then (λ a. give (h a)) k m ∙ then_as m (λ a. give_then (h a) k)
+
+  pub then_map : (m : Make A) (f : A → Make B) (h : B → C) → (m >>= f) ▹ h ≡ m >>= λ a. f a ▹ h
+  unfolding ◌▹◌
+  then_map m f h = then_then f (λ b. give (h b)) m
 
 module _ {A B : Type 0} (f : A → B → Make A) where
   pub each_append : (a : A) (xs ys : List B) → each f a xs >>= (λ b. each f b ys) ≡ each f a (xs ++ ys)

@@ -8,6 +8,7 @@ ghost use Rattle.terms.specs.Gives.{Gives};
 ghost use Rattle.branches.specs.Values.{GivesValue};
 
 use semantics::{Branch, Refusal, State};
+use states::Steps;
 use terms::Table;
 
 // The result of guarded branches, merged over the state x.
@@ -26,7 +27,7 @@ fn merge_assumed(table: &mut Table, x: State, branches: &[Branch]) -> Result<Sta
 {
     let mut state = x;
     for b in branches {
-        state = states::merge_assumed(table, state, b.guard, b.state.assumed)?;
+        state = state.merge_assumed(table, b.guard, b.state.assumed)?;
     }
     Ok(state)
 }
@@ -37,7 +38,7 @@ fn merge_asserted(table: &mut Table, x: State, branches: &[Branch]) -> Result<St
 {
     let mut state = x;
     for b in branches {
-        state = states::merge_asserted(table, state, b.guard, b.state.asserted)?;
+        state = state.merge_asserted(table, b.guard, b.state.asserted)?;
     }
     Ok(state)
 }

@@ -12,6 +12,7 @@ ghost use Rattle.parts.specs.Onward.{Onward, tested, forked};
 
 use expressions::Out;
 use semantics::{Leaf, Refusal, State};
+use states::Steps;
 use terms::Table;
 
 // How an if goes on: with the one branch that runs alone, where its test is constant; or with both, under its guard.
@@ -55,8 +56,8 @@ pub fn fork(table: &mut Table, g: u16, state: State) -> Result<Forked, Refusal>
     ensures { Gives (fork_of g state) table.old 0 (mapped forked result) table.new }
 {
     let guard = formulas::not_of(table, g)?;
-    let yes = states::assume(table, state, g)?;
-    let no = states::assume(table, state, guard)?;
+    let yes = state.assume(table, g)?;
+    let no = state.assume(table, guard)?;
     Ok(Forked { guard, yes, no })
 }
 
@@ -91,7 +92,7 @@ pub fn enter(
 ) -> Result<Entered, Refusal>
     ensures { Onward (λ (run : Evaluator). apply_of run rule.now arg state leaf) (λ e run. run e.body e.env e.state) table.old result table.new }
 {
-    let state = states::assume(table, state, leaf.guard)?;
+    let state = state.assume(table, leaf.guard)?;
     let target = leaf.term;
     let procedure = records::record_at(rule, target.a);
     let env = makers::make_binding(table, arg, target.b)?;

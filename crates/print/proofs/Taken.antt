@@ -1,8 +1,8 @@
 -- The inputs at the start of what is read. Assumes nothing.
-use mathlib.Core.Path.{◌≡◌, refl, ◌∙◌}
+use mathlib.Core.Path.{◌≡◌, refl, ap, ◌∙◌}
 use mathlib.Core.Bool.{Bool, true, false, ◌&&◌}
 use mathlib.Core.List.{List}
-use Prim.Native.Nat.{ℕ, ◌<◌, ◌≤◌}
+use Prim.Native.Nat.{ℕ, zero, suc, ◌<◌, ◌≤◌}
 use native.Mathlib.Omega.{arith}
 use lib.Dec.{leb}
 use lib.ListN.{length}
@@ -36,3 +36,8 @@ long_enough s h = go (leb input_bytes (length s)) refl h
 pub inputs_same : (s : List ℕ) {xs : List Input} → xs ≡ inputs_in s → xs ≡ inputs_from s 0 input_count
 unfolding inputs_in each_below inputs_from
 inputs_same s e = e
+
+pub inputs_length_lem : (s : List ℕ) (i n : ℕ) → length (inputs_from s i n) ≡ n
+unfolding inputs_from
+inputs_length_lem s i zero = refl
+inputs_length_lem s i (suc n) = ap suc (inputs_length_lem s (suc i) n)

@@ -1,5 +1,5 @@
 -- What is written, by what is read: each way through `printed`. Assumes nothing.
-use mathlib.Core.Path.{◌≡◌}
+use mathlib.Core.Path.{◌≡◌, refl, ap, ◌∙◌}
 use mathlib.Core.Bool.{Bool, true, false}
 use mathlib.Core.List.{List, append-nil}
 use Prim.Native.Nat.{ℕ, ◌-◌}
@@ -8,7 +8,7 @@ use lib.ListN.{length, take, drop, replicate, length-drop}
 use lib.Seq.{take_all}
 use lib.Dec.{eqb}
 use Rattle.std.specs.declared.result.Result.TheVariants.{Ok, Err}
-use Rattle.notation.specs.Notation.{with, when◌then◌else◌, if◌equals◌then◌else◌}
+use Rattle.notation.specs.Notation.{with, every, when◌then◌else◌, unless◌then◌else◌, if◌equals◌then◌else◌}
 use Rattle.semantics.specs.declared.Input.{Input}
 use Rattle.semantics.specs.declared.Opened.{Opened}
 use Rattle.semantics.specs.declared.Session.{Session}
@@ -16,13 +16,29 @@ use Rattle.semantics.specs.declared.refusal.Refusal.{Refusal}
 use Rattle.semantics.specs.Refusals.{number_of}
 use Rattle.semantics.specs.declared.Evaluated.{Evaluated}
 use Rattle.semantics.specs.Numbers.{input_count, most_table, bad_input}
-use Rattle.semantics.specs.Opening.{open_of}
+use Rattle.semantics.specs.Opening.{bad_table_size, input_taken, open_of}
 use Rattle.semantics.specs.Evaluate.{evaluate_of}
 use Rattle.semantics.specs.Print.{input_bytes, refusal, term_lines, answer_lines, print_allowance, inputs_from, inputs_whole, evaluation_lines, opening_lines, printed_of}
 use Rattle.opening.specs.Openings.{opened_of}
 use Rattle.lines.specs.Lines.{line_text, lines_text}
 use Rattle.print.specs.Written.{written_of}
 use Rattle.text.specs.Appends.{Writes}
+use Rattle.print.proofs.Taken.{inputs_length_lem}
+
+-- an opening keeps its inputs
+open_inputs : (xs : List Input) (z : List ℕ) → (open_of xs z).0.session.inputs ≡ xs
+unfolding open_of when◌then◌else◌ unless◌then◌else◌ with
+open_inputs xs z = go (bad_table_size (length z)) (every input_taken xs) refl refl
+  where
+    go : (a b : Bool) → bad_table_size (length z) ≡ a → every input_taken xs ≡ b → (open_of xs z).0.session.inputs ≡ xs
+    go true b e f = rw e
+    go false false e f = rw (e, f)
+    go false true e f = rw (e, f)
+
+-- so the session has sixteen
+pub sixteen_inputs : (s : List ℕ) {xs : List Input} → xs ≡ inputs_from s 0 input_count → {x : Opened} {t : List ℕ} (z : List ℕ) → ◌≡◌ {A = Opened × List ℕ} (x, t) (open_of xs z)
+    → length x.session.inputs ≡ input_count
+sixteen_inputs s {xs} ex z eo = ap (λ (p : Opened × List ℕ). length p.0.session.inputs) eo ∙ (ap length (open_inputs xs z ∙ ex) ∙ inputs_length_lem s 0 input_count)
 
 above_zero : (k : Refusal) → eqb (number_of k) 0 ≡ false
 above_zero k = grind arith

@@ -1,5 +1,5 @@
-// The steps of an evaluation's state: assuming, asserting, and merging one branch. Each promises what its definition gives on all
-// arguments. None has a `requires`.
+// The state of an evaluation, by value. Assuming, asserting and merging one branch are methods that take the state and
+// answer the next one, or a refusal. Each promises what its definition gives on all arguments. None has a `requires`.
 #![tactic(auto)]
 
 ghost use Rattle.std.specs.Prelude.{◌≡◌};
@@ -9,57 +9,62 @@ ghost use Rattle.terms.specs.Gives.{held, Gives};
 use semantics::{Refusal, State};
 use terms::Table;
 
-// Assume g: S becomes and(S, implies(T, g)).
-pub fn assume(table: &mut Table, state: State, g: u16) -> Result<State, Refusal>
-    ensures { Gives (assume_of state g) table.old 0 result table.new }
-{
-    merge_assumed(table, state, state.asserted, g)
+// The steps of a state over a lent table. A trait, since a method by itself would have to stand in `semantics`, beside `State`.
+pub trait Steps {
+    // Assume g: S becomes and(S, implies(T, g)).
+    fn assume(self, table: &mut Table, g: u16) -> Result<Self, Refusal>;
+
+    // Assert g: T becomes and(T, implies(S, g)).
+    fn assert(self, table: &mut Table, g: u16) -> Result<Self, Refusal>;
+
+    // One branch of a merge: S is and'ed with implies(guard, the branch's S).
+    fn merge_assumed(self, table: &mut Table, guard: u16, assumed: u16) -> Result<Self, Refusal>;
+
+    // One branch of a merge: T is and'ed with implies(guard, the branch's T).
+    fn merge_asserted(self, table: &mut Table, guard: u16, asserted: u16) -> Result<Self, Refusal>;
+
+    // Whether S or T is the term false.
+    fn halts(self, table: &Table) -> bool;
 }
 
-// Assert g: T becomes and(T, implies(S, g)).
-pub fn assert(table: &mut Table, state: State, g: u16) -> Result<State, Refusal>
-    ensures { Gives (assert_of state g) table.old 0 result table.new }
-{
-    merge_asserted(table, state, state.assumed, g)
-}
+impl Steps for State {
+    fn assume(self, table: &mut Table, g: u16) -> Result<State, Refusal>
+        ensures { Gives (assume_of self g) table.old 0 result table.new }
+    {
+        self.merge_assumed(table, self.asserted, g)
+    }
 
-// One branch of a merge: S is and'ed with implies(guard, the branch's S).
-pub fn merge_assumed(
-    table: &mut Table,
-    state: State,
-    guard: u16,
-    assumed: u16,
-) -> Result<State, Refusal>
-    ensures { Gives (merge_assumed_of state guard assumed) table.old 0 result table.new }
-{
-    let implied = formulas::implies(table, guard, assumed)?;
-    let assumed = formulas::and_of(table, state.assumed, implied)?;
-    Ok(State {
-        assumed,
-        asserted: state.asserted,
-    })
-}
+    fn assert(self, table: &mut Table, g: u16) -> Result<State, Refusal>
+        ensures { Gives (assert_of self g) table.old 0 result table.new }
+    {
+        self.merge_asserted(table, self.assumed, g)
+    }
 
-// One branch of a merge: T is and'ed with implies(guard, the branch's T).
-pub fn merge_asserted(
-    table: &mut Table,
-    state: State,
-    guard: u16,
-    asserted: u16,
-) -> Result<State, Refusal>
-    ensures { Gives (merge_asserted_of state guard asserted) table.old 0 result table.new }
-{
-    let implied = formulas::implies(table, guard, asserted)?;
-    let asserted = formulas::and_of(table, state.asserted, implied)?;
-    Ok(State {
-        assumed: state.assumed,
-        asserted,
-    })
-}
+    fn merge_assumed(self, table: &mut Table, guard: u16, assumed: u16) -> Result<State, Refusal>
+        ensures { Gives (merge_assumed_of self guard assumed) table.old 0 result table.new }
+    {
+        let implied = formulas::implies(table, guard, assumed)?;
+        let assumed = formulas::and_of(table, self.assumed, implied)?;
+        Ok(State {
+            assumed,
+            asserted: self.asserted,
+        })
+    }
 
-// Whether S or T is the term false.
-pub fn halts(table: &Table, state: State) -> bool
-    ensures { result ≡ halts_of state (held table.now) }
-{
-    table.known(state.assumed) == Some(false) || table.known(state.asserted) == Some(false)
+    fn merge_asserted(self, table: &mut Table, guard: u16, asserted: u16) -> Result<State, Refusal>
+        ensures { Gives (merge_asserted_of self guard asserted) table.old 0 result table.new }
+    {
+        let implied = formulas::implies(table, guard, asserted)?;
+        let asserted = formulas::and_of(table, self.asserted, implied)?;
+        Ok(State {
+            assumed: self.assumed,
+            asserted,
+        })
+    }
+
+    fn halts(self, table: &Table) -> bool
+        ensures { result ≡ halts_of self (held table.now) }
+    {
+        table.known(self.assumed) == Some(false) || table.known(self.asserted) == Some(false)
+    }
 }

@@ -11,26 +11,35 @@ ghost use Rattle.terms.specs.Gives.{Gives, Makes};
 ghost use Rattle.walk.specs.Leaves.{aim_shown, walk_shown};
 
 use semantics::{Leaf, Refusal, State, Term, numbers};
+use states::Steps;
 use std::marker::Model;
 use terms::Table;
 
 // The leaves of one call, in the order in which they are met. An `ArrayVec` would want `Default` of a `Leaf`, which has none.
-#[derive(Drop)]
+#[derive(Clone, Copy)]
 pub struct Leaves {
     list: [Leaf; numbers::LEAF_LIMIT],
     count: usize,
 }
 
 impl Model for Leaves {
-    ghost use Rattle.std.specs.Prelude.{◌≡◌, ◌≤◌, List, length, take};
+    ghost use Rattle.std.specs.Prelude.{◌≡◌, ◌≤◌, ◌-◌, ◌++◌, List, length, take, drop, replicate};
     ghost use Rattle.semantics.specs.Numbers.{leaf_limit};
     ghost use Rattle.semantics.specs.declared.Leaf.{Leaf as Met};
+    ghost use Rattle.walk.specs.Blank.{no_leaf, padded, counted};
 
     ghost Value = { List Met };
 
     ghost view = { λ v. take v.count v.list };
 
-    ghost invariant = { λ v. (v.count ≤ leaf_limit) × (length v.list ≡ leaf_limit) };
+    ghost invariant = { λ v. (v.count ≤ leaf_limit) × (length v.list ≡ leaf_limit) × (drop v.count v.list ≡ replicate (leaf_limit - v.count) no_leaf) };
+
+    ghost inverse = { λ ls. record { list = ls ++ replicate (leaf_limit - length ls) no_leaf; count = length ls } };
+
+    ghost inverse_ok = { λ v h i. record {
+      list = padded no_leaf leaf_limit v.count v.list h.0 h.1 h.2 i;
+      count = counted leaf_limit v.count v.list h.0 h.1 i;
+    } };
 }
 
 impl Leaves {
@@ -78,13 +87,15 @@ impl Leaves {
 }
 
 // The leaves under the value of a call, and the state once it is asserted that one is a target.
-#[derive(Drop)]
+#[derive(Clone, Copy)]
 pub struct Aimed {
     pub leaves: Leaves,
     pub state: State,
 }
 
-// Where a call goes: every leaf under the value called, and the asserted or of the targets' guards.
+// Where a call goes: every leaf under the value called, and the asserted or of the targets' guards. Not inlined: what it
+// works with would stay on the stack while the targets run, at every level.
+#[inline(never)]
 pub fn aim(table: &mut Table, f: u16, state: State) -> Result<Aimed, Refusal>
     ensures { Gives (aim_of f state) table.old 0 (aim_shown result) table.new }
 {
@@ -97,7 +108,7 @@ pub fn aim(table: &mut Table, f: u16, state: State) -> Result<Aimed, Refusal>
         f,
     )?;
     let any = any_target(table, leaves.as_slice())?;
-    let state = states::assert(table, state, any)?;
+    let state = state.assert(table, any)?;
     Ok(Aimed { leaves, state })
 }
 

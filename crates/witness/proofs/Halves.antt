@@ -4,13 +4,15 @@ use mathlib.Core.Bool.{Bool, true, false}
 use Rattle.std.specs.declared.option.Option.{Option}
 use Rattle.std.specs.declared.option.Option.TheVariants.{None, Some}
 use mathlib.Core.List.{List, [], ◌∷◌}
-use Prim.Native.Nat.{ℕ, zero, suc, ◌+◌, ◌<◌, ◌≤◌}
+use Prim.Native.Nat.{ℕ, zero, suc, ◌+◌, ◌*◌, ◌^◌, ◌<◌, ◌≤◌}
+use native.Mathlib.Nat.{mul-le-mul}
 use native.Mathlib.Omega.{arith}
 use lib.Dec.{eqb}
 use lib.ListN.{length, get_or, set}
 use lib.Seq.{get_or-set_same, get_or-set_other}
 use borrow.Author.Tests.{eqb-true, eqb-false}
 use Rattle.notation.specs.Notation.{pick, when◌then◌else◌}
+use Rattle.words.specs.Words.{word_limit}
 use Rattle.semantics.specs.declared.Term.{Term}
 use Rattle.semantics.specs.declared.Goal.{Goal}
 use Rattle.semantics.specs.declared.Result.{Result}
@@ -165,3 +167,7 @@ module _ (s : List ℕ) (count : ℕ) (r : Result) (g : Goal) (ls hs : List ℕ)
   unfolding first_reached
   passed_over n =
       rw (first_nested (reached_at g r (terms_in s count)) ls hs, box_none (reached_at g r (terms_in s count)) ls hs (λ ns b. n ns (record { low = in_low b; high = in_high b })))
+
+-- a count of few bits for each input stays below 2 ^ 32
+pub product_small : (n x : ℕ) → n < 32 → x ≤ word_limit → n * x < 2 ^ 32
+product_small n x h l = let p : n * x ≤ 32 * word_limit = mul-le-mul {n₁ = n} {n₂ = 32} (omega arith) l in omega arith

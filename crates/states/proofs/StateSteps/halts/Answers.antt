@@ -1,8 +1,8 @@
--- `states::halts` meets its contract. Assumes nothing.
+-- `State::halts` meets its contract. Assumes nothing.
 use borrow.Author.Rules.{rules}
 use mathlib.Core.Path.{sym, ◌∙◌}
 use Rattle.states.proofs.Halting.{assumed_false, asserted_said}
-use Rattle.states.proofs.halts.Goals as goal
+use Rattle.states.proofs.StateSteps.halts.Goals as goal
 
 pub returns-then-eq : goal.returns-then-eq
 returns-then-eq c = c.if-eq.true ∙ assumed_false _ _ _ c.known.ensures (sym c.eq.ensures ∙ c.if-eq.true)

@@ -1,8 +1,8 @@
--- `states::merge_asserted` meets its contract: it follows the text of its definition. Assumes nothing.
+-- `State::merge_asserted` meets its contract: it follows the text of its definition. Assumes nothing.
 use borrow.Author.Rules.{rules}
 use Rattle.terms.proofs.Gives.{steps}
 use Rattle.semantics.specs.States.{merge_asserted_of}
-use Rattle.states.proofs.merge_asserted.Goals as goal
+use Rattle.states.proofs.StateSteps.merge_asserted.Goals as goal
 
 pub returns-in_err-implied : goal.returns-in_err-implied
 unfolding merge_asserted_of
