@@ -97,6 +97,23 @@ fn free_inputs(tally: &mut Tally) {
             expect(tally, "a free input", &made, false);
         }
     }
+    free_among_words(tally);
+}
+
+/// At every place behind an opening: the desk looks at the oldest and the newest together, up to the middle one of an odd number.
+fn free_among_words(tally: &mut Tally) {
+    for behind in 1..=6 {
+        let words = (0..behind).map(|n| record(2, 0, 1_000 + n, 0, 0));
+        let made = words.fold(opened(), |made, word| made.more(word));
+        expect(tally, "words alone", &made, true);
+        for at in 0..behind {
+            let number = LAST_OPENED + 1 + at;
+            for kind in [3, 4] {
+                let made = made.put(number, record(kind, 0, 7, 0, 0));
+                expect(tally, "a free input among words", &made, false);
+            }
+        }
+    }
 }
 
 /// "the tail is not zero"
